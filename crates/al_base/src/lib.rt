@@ -1,0 +1,22 @@
+//! The ledger's smallest words: addresses, keys of rows, bytes, and the outside that bytes come from and go to.
+#![tactic(auto)]
+
+mod account;
+mod address;
+mod asset;
+mod bytes;
+mod key;
+mod name;
+mod online;
+mod sink;
+mod source;
+
+pub use account::{Special, Status};
+pub use address::{Address, Addresses, Hash};
+pub use asset::AssetParams;
+pub use bytes::Bytes;
+pub use key::{CreatorChange, CreatorChanges, Key};
+pub use name::BoxName;
+pub use online::{History, LevelAt, Levels, OnlineChange, OnlineChanges, OnlineData, Version};
+pub use sink::{MemSink, Sink};
+pub use source::{Failed, MemSource, Source};
