@@ -1,5 +1,5 @@
 -- What goes through a folder.
-use Rattle.std.specs.Prelude.{◌≡◌, ◌≢◌, ℕ, ◌≤◌, ◌<◌, List, [], ◌∷◌, length, ⊤, Option, Some, None, Result, Ok, Err, IfSome, IsSomeAnd, bytes_eq, find, option_map}
+use Rattle.std.specs.Prelude.{◌≡◌, ◌≢◌, ℕ, ◌≤◌, ◌<◌, List, [], ◌∷◌, length, ⊤, Bool, Option, Some, None, Result, Ok, Err, IfSome, IsSomeAnd, bytes_eq, find, option_map}
 use Rattle.al_base.specs.Causes.{Rose}
 use Rattle.al_base.specs.declared.folder.FolderRefusal.{FolderRefusal}
 use Rattle.al_base.specs.declared.folder.FolderRefusal.TheVariants.{Failed, TooLong, Memory}
@@ -9,13 +9,21 @@ use Rattle.al_base.specs.declared.folder.NamedFile.{NamedFile}
 abbrev pub FileMap : Type 0
 FileMap = List ℕ → Option (List ℕ)
 
+-- whether a file has this name
+abbrev pub is_named : List ℕ → NamedFile → Bool
+is_named name file = bytes_eq file.name name
+
 -- the files of a list; of two of one name the first
 abbrev pub file_of : List NamedFile → FileMap
-file_of files name = option_map (λ file. file.bytes) (find (λ file. bytes_eq file.name name) files)
+file_of files name = option_map (λ file. file.bytes) (find (is_named name) files)
 
 -- every file but this one is as before
 abbrev pub KeepsOthers : FileMap → FileMap → List ℕ → Type 0
 KeepsOthers before now name = (other : List ℕ) → other ≢ name → now other ≡ before other
+
+-- this file holds these bytes, and every other is as before
+abbrev pub Replaces : FileMap → FileMap → List ℕ → List ℕ → Type 0
+Replaces before now name bytes = (now name ≡ Some bytes) × KeepsOthers before now name
 
 -- what a read answers of a file: the file, or that it is too long
 abbrev pub Answers : Option (List ℕ) → ℕ → Result (Option (List ℕ)) FolderRefusal → Type 0
@@ -44,6 +52,10 @@ WhereFailed (Err Failed) fact = fact
 WhereFailed (Err (TooLong kept)) fact = ⊤
 WhereFailed (Err Memory) fact = ⊤
 
+-- a read that did not fail
+abbrev pub NeverFailed : Result (Option (List ℕ)) FolderRefusal → Type 0
+NeverFailed result = WhereFailed result ⊥
+
 -- a folder's count never falls, and rose where the read failed
 pub record HasReadCause (before now : ℕ) (result : Result (Option (List ℕ)) FolderRefusal) : Type 0 where
   pub later : before ≤ now
@@ -53,5 +65,5 @@ pub record HasReadCause (before now : ℕ) (result : Result (Option (List ℕ)) 
 abbrev pub Writes : {T E : Type 0} → Option FileMap → Option FileMap → List ℕ → List ℕ → Result T E → Type 0
 Writes None now name bytes result = ⊤
 Writes (Some before) None name bytes result = ⊥
-Writes (Some before) (Some now) name bytes (Ok x) = (now name ≡ Some bytes) × KeepsOthers before now name
+Writes (Some before) (Some now) name bytes (Ok x) = Replaces before now name bytes
 Writes (Some before) (Some now) name bytes (Err e) = KeepsOthers before now name

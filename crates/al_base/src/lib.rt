@@ -23,7 +23,7 @@ pub use key::{CreatorChange, CreatorChanges, Key};
 pub use name::BoxName;
 pub use online::{History, LevelAt, Levels, OnlineChange, OnlineChanges, OnlineData, Version};
 pub use folder::{Files, Folder, FolderRefusal, NamedFile};
-pub use memory::{MemSink, MemSource};
+pub use memory::{MemFolder, MemSink, MemSource};
 pub use quiet::QuietSource;
 pub use sink::Sink;
 pub use source::{Failed, Source};
