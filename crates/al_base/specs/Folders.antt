@@ -1,5 +1,5 @@
 -- What goes through a folder.
-use Rattle.std.specs.Prelude.{◌≡◌, ◌≢◌, ℕ, ◌≤◌, ◌<◌, List, [], ◌∷◌, length, ⊤, Bool, Option, Some, None, Result, Ok, Err, IfSome, IsSomeAnd, bytes_eq, find, option_map}
+use Rattle.std.specs.Prelude.{◌≡◌, ◌≢◌, ℕ, ◌≤◌, ◌<◌, List, [], ◌∷◌, length, ⊤, Bool, true, false, Option, Some, None, Result, Ok, Err, IfSome, IsSomeAnd, bytes_eq, find, option_map}
 use Rattle.al_base.specs.Causes.{Rose}
 use Rattle.al_base.specs.declared.folder.FolderRefusal.{FolderRefusal}
 use Rattle.al_base.specs.declared.folder.FolderRefusal.TheVariants.{Failed, TooLong, Memory}
@@ -52,9 +52,12 @@ WhereFailed (Err Failed) fact = fact
 WhereFailed (Err (TooLong kept)) fact = ⊤
 WhereFailed (Err Memory) fact = ⊤
 
--- a read that did not fail
-abbrev pub NeverFailed : Result (Option (List ℕ)) FolderRefusal → Type 0
-NeverFailed result = WhereFailed result ⊥
+-- whether a read failed
+abbrev pub is_failed : Result (Option (List ℕ)) FolderRefusal → Bool
+is_failed (Ok found) = false
+is_failed (Err Failed) = true
+is_failed (Err (TooLong kept)) = false
+is_failed (Err Memory) = false
 
 -- a folder's count never falls, and rose where the read failed
 pub record HasReadCause (before now : ℕ) (result : Result (Option (List ℕ)) FolderRefusal) : Type 0 where

@@ -1,8 +1,8 @@
 //! Where whole files are kept.
-ghost use Rattle.std.specs.Prelude.{◌≡◌, ℕ, List, Option, OnOk, OnErr, position};
+ghost use Rattle.std.specs.Prelude.{◌≡◌, ℕ, List, Option, IsFalse, OnOk, OnErr, position};
 ghost use Rattle.std.specs.Option.{option_copied};
 ghost use Rattle.al_base.specs.Causes.{HasCause};
-ghost use Rattle.al_base.specs.Folders.{Answers, NeverFailed, Reads, Writes, Replaces, IsWithinLimit, HasReadCause, file_of, is_named};
+ghost use Rattle.al_base.specs.Folders.{Answers, is_failed, Reads, Writes, Replaces, IsWithinLimit, HasReadCause, file_of, is_named};
 
 use crate::{Bytes, Failed};
 use sqlite_items::Items;
@@ -122,7 +122,7 @@ pub(crate) fn read_file(
 ) -> Result<Option<Bytes>, FolderRefusal>
     ensures within { IsWithinLimit limit result }
     ensures answer { Answers (option_copied file.entry) limit result }
-    ensures sure { NeverFailed result }
+    ensures sure { IsFalse (is_failed result) }
 {
     let Some(bytes) = file else {
         return Ok(None);

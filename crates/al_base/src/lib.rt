@@ -14,6 +14,7 @@ mod plan;
 mod quiet;
 mod sink;
 mod source;
+mod system;
 
 pub use account::{Special, Status};
 pub use address::{Address, Addresses, Hash};
@@ -24,6 +25,7 @@ pub use name::BoxName;
 pub use online::{History, LevelAt, Levels, OnlineChange, OnlineChanges, OnlineData, Version};
 pub use folder::{Files, Folder, FolderRefusal, NamedFile};
 pub use memory::{MemFolder, MemSink, MemSource};
-pub use quiet::QuietSource;
+pub use quiet::{QuietFolder, QuietSink, QuietSource};
 pub use sink::Sink;
 pub use source::{Failed, Source};
+pub use system::{DirFolder, ReadSource, WriteSink};

@@ -1,7 +1,7 @@
 //! A source, a sink and a folder in memory, some of whose calls fail.
-ghost use Rattle.std.specs.Prelude.{◌≡◌, ◌++◌, ◌≤◌, ◌↔◌, length, min, Some, IfOk, IsErr, OnErr, OnOk, Contains, is_err, None, ⊤};
+ghost use Rattle.std.specs.Prelude.{◌≡◌, ◌++◌, ◌≤◌, ◌↔◌, length, min, Some, IfOk, IsErr, OnErr, OnOk, Contains, is_err, IsTrue};
 ghost use Rattle.al_base.specs.Causes.{HasCause, Puts, Takes};
-ghost use Rattle.al_base.specs.Folders.{file_of, HasReadCause, IsWithinLimit, Reads, Writes, WhereFailed};
+ghost use Rattle.al_base.specs.Folders.{file_of, HasReadCause, IsWithinLimit, Reads, Writes, is_failed};
 ghost use Rattle.std.specs.Option.{option_copied};
 ghost use Rattle.al_base.specs.Plans.{counted, planned, called};
 
@@ -146,6 +146,9 @@ impl Folder for MemFolder {
         ensures within { IsWithinLimit limit result }
         ensures files { Reads (Some (file_of self.old.files)) (Some (file_of self.new.files)) name.now limit result }
         ensures cause { HasReadCause self.old.plan.faults self.new.plan.faults result }
+        ensures same { self.new.files ≡ self.old.files }
+        ensures plan { self.new.plan ≡ called (is_failed result) self.old.plan }
+        ensures fails { IsTrue (is_failed result) ↔ Contains self.old.plan.fails (counted self.old.plan.calls) }
     {
         if self.plan.call().is_err() {
             return Err(FolderRefusal::Failed);
