@@ -13,10 +13,12 @@ pub struct BoxName {
 
 impl BoxName {
     ghost use Rattle.al_base.specs.Name.{name_of};
+    ghost use Rattle.al_base.specs.declared.name.BoxName.{BoxName};
 
     /// The name with these bytes.
     pub fn new(bytes: &[u8]) -> Option<BoxName>
         ensures value { IfSome result (λ n. name_of n ≡ bytes.now) }
+        ensures whole { (name : BoxName) → length name.bytes ≡ 64 → name_of name ≡ bytes.now → result ≡ Some name }
         ensures found { IsSome result ↔ ((1 ≤ length bytes.now) × (length bytes.now ≤ 64)) }
     {
         let len = bytes.len();
