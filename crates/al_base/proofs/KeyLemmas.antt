@@ -52,7 +52,12 @@ as_resource (Resource a id) bs h e =
     let t : a.0 ++ number_bytes id ≡ bs = cc in
     let p = joined a.0 (number_bytes id) bs 32 h.0 t in
     record {
-      holder = a; id = id; is = refl; below = h.1; first = p.0; rest = p.1;
+      holder = a;
+      id = id;
+      is = refl;
+      below = h.1;
+      first = p.0;
+      rest = p.1;
       first_len = ap length p.0 ∙ h.0;
       rest_len = ap length p.1 ∙ length-number_bytes id;
       len = omega (arith, ap length t, length-append a.0 (number_bytes id), h.0);
@@ -78,7 +83,13 @@ as_box (Box app name) bs h e =
     let t : number_bytes app ++ name_of name ≡ bs = cc in
     let p = joined (number_bytes app) (name_of name) bs 8 (length-number_bytes app) t in
     record {
-      app = app; name = name; is = refl; below = h.0; first = p.0; rest = p.1; name_len = h.1;
+      app = app;
+      name = name;
+      is = refl;
+      below = h.0;
+      first = p.0;
+      rest = p.1;
+      name_len = h.1;
       first_len = ap length p.0 ∙ length-number_bytes app;
       len = omega (arith, ap length t, length-append (number_bytes app) (name_of name), length-number_bytes app);
     }

@@ -1,5 +1,7 @@
 //! The keys of rows, and who created what.
 ghost use Rattle.std.specs.Prelude.{◌≡◌, ◌≢◌, ◌∷◌, ◌<◌, ◌≤◌, length, take, drop, Some, IfSome, MatchOption};
+ghost use Rattle.std.specs.Cmp.Lexicographic.{slice_cmp};
+ghost use Rattle.std.specs.Ordering.{nat_cmp};
 ghost use Rattle.al_base.specs.Keys.{key_cmp, key_bytes, number_bytes, bytes_of, IsKey};
 ghost use Rattle.al_base.specs.declared.key.Key.{Key};
 
@@ -21,7 +23,8 @@ impl Key {
     /// The bytes of the key: what kind it is, whose it is, and its number or name, numbers most
     /// significant byte first.
     pub fn bytes(&self) -> KeyBytes
-        ensures { bytes_of result ≡ key_bytes self.now }
+        ensures bytes { bytes_of result ≡ key_bytes self.now }
+        ensures key { IsKey self.now }
     {
         match self {
             Key::Account(address) => KeyBytes::start(0).with(&address.0),
@@ -48,11 +51,34 @@ impl Key {
         }
     }
 
-    /// The order of two keys.
+    /// The order of two keys, which is that of their bytes.
     pub fn compare(&self, other: &Key) -> std::cmp::Ordering
-        ensures { result ≡ key_cmp self.now other.now }
+        ensures cases { result ≡ key_cmp self.now other.now }
+        ensures bytes { result ≡ slice_cmp nat_cmp (key_bytes self.now) (key_bytes other.now) }
     {
+        self.is_in_range();
+        other.is_in_range();
         self.cmp(other)
+    }
+
+    // No effect at run time. The proof reads that the key's arrays have their lengths, and that its
+    // number is below 2 ^ 64.
+    fn is_in_range(&self)
+        ensures { IsKey self.now }
+    {
+        match self {
+            Key::Account(address) => {
+                let _bytes: &[u8] = &address.0;
+            }
+            Key::Resource(address, id) => {
+                let _bytes: &[u8] = &address.0;
+                let _id = *id;
+            }
+            Key::Box(app, name) => {
+                let _app = *app;
+                let _bytes = name.as_slice();
+            }
+        }
     }
 }
 
