@@ -16,6 +16,8 @@ mod quiet;
 mod sink;
 mod source;
 mod system;
+#[cfg(test)]
+mod tests;
 
 pub use account::{Special, Status};
 pub use address::{Address, Addresses, Hash};
