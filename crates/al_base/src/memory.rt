@@ -5,8 +5,8 @@ ghost use Rattle.al_base.specs.Folders.{file_of, HasReadCause, IsWithinLimit, Re
 ghost use Rattle.std.specs.Option.{option_copied};
 ghost use Rattle.al_base.specs.Plans.{counted, planned, called};
 
-use crate::plan::Plan;
 use crate::folder::{file_in, put_file, read_file};
+use crate::plan::Plan;
 use crate::{Bytes, Failed, Files, Folder, FolderRefusal, QuietSource, Sink, Source};
 use std::alloc::{AllocError, Global};
 
