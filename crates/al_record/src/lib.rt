@@ -8,6 +8,7 @@ mod lookup;
 mod pass;
 mod record;
 mod shape;
+mod theorems;
 mod write;
 
 pub use family::{bytes_of, flag_of, list_of, map_of, number_of, text_of};
@@ -17,4 +18,5 @@ pub use lookup::{addresses, array, bytes, find, flag, list, map, number, text};
 pub use pass::{check, check_fields, check_ranges};
 pub use record::{Record, list_of_all, read_all};
 pub use shape::{ANY_BYTES, COUNT, Column, HASH, Shape};
+pub use theorems::record_laws;
 pub use write::{Content, listed, put, put_list, put_map};
