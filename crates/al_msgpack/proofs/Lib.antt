@@ -1,0 +1,12 @@
+pub mod Exact
+pub mod Numbers
+pub mod Keys
+pub mod Heads
+pub mod Sizes
+pub mod Nest
+pub mod Values
+pub mod Verdicts
+pub mod Codes
+pub mod Written
+pub mod Canonical
+pub mod Encoded

@@ -1,0 +1,5 @@
+pub mod Columns
+pub mod Code
+pub mod Canonical
+pub mod Kinds
+pub mod Again

@@ -1,0 +1,60 @@
+//! What stands in a value of each family, or the family's zero value.
+ghost use Rattle.std.specs.Prelude.{◌≡◌, ℕ};
+ghost use Rattle.std.specs.Option.{option_copied};
+ghost use Rattle.al_record.specs.Columns.{number_of, flag_of, text_of, bytes_of, list_of, map_of};
+
+use al_msgpack::{Entry, Val};
+
+pub fn number_of(v: Option<&Val>) -> u64
+    ensures { result ≡ number_of (option_copied v.entry) }
+{
+    match v {
+        Some(Val::Num(n)) => *n,
+        _ => 0,
+    }
+}
+
+pub fn flag_of(v: Option<&Val>) -> bool
+    ensures { result ≡ flag_of (option_copied v.entry) }
+{
+    match v {
+        Some(Val::Flag(b)) => *b,
+        _ => false,
+    }
+}
+
+pub fn text_of<'a>(v: Option<&'a Val>) -> &'a [u8]
+    ensures { result.now ≡ text_of (option_copied v.entry) }
+{
+    match v {
+        Some(Val::Str(b)) => b.as_slice(),
+        _ => &[],
+    }
+}
+
+pub fn bytes_of<'a>(v: Option<&'a Val>) -> &'a [u8]
+    ensures { result.now ≡ bytes_of (option_copied v.entry) }
+{
+    match v {
+        Some(Val::Bin(b)) => b.as_slice(),
+        _ => &[],
+    }
+}
+
+pub fn list_of<'a>(v: Option<&'a Val>) -> &'a [Val]
+    ensures { result.now ≡ list_of (option_copied v.entry) }
+{
+    match v {
+        Some(Val::List(items)) => items.as_slice(),
+        _ => &[],
+    }
+}
+
+pub fn map_of<'a>(v: Option<&'a Val>) -> &'a [Entry]
+    ensures { result.now ≡ map_of (option_copied v.entry) }
+{
+    match v {
+        Some(Val::Map(entries)) => entries.as_slice(),
+        _ => &[],
+    }
+}
