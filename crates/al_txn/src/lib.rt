@@ -3,10 +3,18 @@
 
 mod body;
 mod chain;
+mod common;
+mod configuration;
 mod effect;
+mod freezing;
+mod payment;
+mod record;
+mod registration;
+mod transfer;
 mod txn;
 
 pub use body::{AppCall, AssetMove, Body, Config, Freeze, KeyReg, Pay};
 pub use chain::Chain;
 pub use effect::{Effect, Effects, Inner};
+pub use record::{read_txn, txn_entries};
 pub use txn::{Item, Items, Txn};
