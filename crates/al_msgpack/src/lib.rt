@@ -13,7 +13,7 @@ pub use fault::DecodeFault;
 pub use laws::format_laws;
 pub use reading::decode;
 pub use val::{Entries, Entry, Val, Vals};
-pub use writing::encode;
+pub use writing::{encode, write};
 
 #[cfg(test)]
 mod tests;

@@ -119,16 +119,19 @@ fn put_string(bytes: &[u8], out: &mut Vec<u8>) -> Result<(), AllocError>
     out.extend_from_slice(bytes)
 }
 
-/// Appends the one spelling of a canonical value.
+/// Appends the one spelling of a canonical value: the bytes that `decode` reads back as this value.
 pub fn encode(v: &Val, out: &mut Vec<u8>) -> Result<(), AllocError>
     requires { IsCanonical 16 v.now }
-    ensures { OnOk result ((b : List ℕ) × IsSpelling v.now b × (out.new.items ≡ out.old.items ++ b)) }
+    ensures spelling { OnOk result ((b : List ℕ) × IsSpelling v.now b × (out.new.items ≡ out.old.items ++ b)) }
+    ensures bytes { OnOk result (out.new.items ≡ out.old.items ++ spelled v.now) }
 {
-    put(v, out)
+    write(v, out)
 }
 
-#[cycle(encode)]
-fn put(v: &Val, out: &mut Vec<u8>) -> Result<(), AllocError>
+/// Appends bytes for any value, canonical or not: its one spelling where it is canonical. What is
+/// only hashed and never decoded needs no more.
+#[cycle(write)]
+pub fn write(v: &Val, out: &mut Vec<u8>) -> Result<(), AllocError>
     ensures { OnOk result (out.new.items ≡ out.old.items ++ spelled v.now) }
 {
     match v {
@@ -142,32 +145,34 @@ fn put(v: &Val, out: &mut Vec<u8>) -> Result<(), AllocError>
         }
         Val::List(items) => {
             put_list_head(items.len(), out)?;
-            encode_all(items.as_slice(), out)
+            write_all(items.as_slice(), out)
         }
         Val::Map(entries) => {
             put_map_head(entries.len(), out)?;
-            encode_entries(entries.as_slice(), out)
+            write_entries(entries.as_slice(), out)
         }
     }
 }
 
-#[cycle(encode)]
-fn encode_all(items: &[Val], out: &mut Vec<u8>) -> Result<(), AllocError>
+/// Values one behind the other.
+#[cycle(write)]
+fn write_all(items: &[Val], out: &mut Vec<u8>) -> Result<(), AllocError>
     ensures { OnOk result (out.new.items ≡ out.old.items ++ all_spelled items.now) }
 {
     for v in items {
-        put(v, out)?;
+        write(v, out)?;
     }
     Ok(())
 }
 
-#[cycle(encode)]
-fn encode_entries(entries: &[Entry], out: &mut Vec<u8>) -> Result<(), AllocError>
+/// Keys and values one behind the other.
+#[cycle(write)]
+fn write_entries(entries: &[Entry], out: &mut Vec<u8>) -> Result<(), AllocError>
     ensures { OnOk result (out.new.items ≡ out.old.items ++ entries_spelled entries.now) }
 {
     for e in entries {
         put_string(e.key.as_slice(), out)?;
-        put(&e.val, out)?;
+        write(&e.val, out)?;
     }
     Ok(())
 }

@@ -1,10 +1,10 @@
 -- A record determines its value.
-use Rattle.std.proofs.Common.{◌≡◌, ℕ, List, [], ◌∷◌, map, Result, Ok, Err, refl, sym, ap, ap₂, ◌∙◌}
+use Rattle.std.proofs.Common.{◌≡◌, ℕ, List, [], ◌∷◌, map, Result, Ok, Err, refl, ap, ap₂}
 use Rattle.al_msgpack.specs.declared.val.Entry.{Entry}
 use Rattle.al_base.specs.declared.address.Address.{Address}
 use Rattle.al_record.specs.declared.fault.ReadError.{ReadError}
 use Rattle.al_record.specs.declared.fault.ReadError.TheVariants as errors
-use Rattle.al_record.specs.Columns.{Format, IsRecord, Reads, AllShown}
+use Rattle.al_record.specs.Columns.{Format, IsRecord, Reads}
 use Rattle.al_record.specs.Again.{Answers}
 
 abbrev pub Determined : {X : Type 0} → Format X → Type 0

@@ -2,7 +2,7 @@
 ghost use Rattle.std.specs.Prelude.{◌≡◌, map, IsTrue, IfOk};
 ghost use Rattle.std.specs.List.{list_all};
 ghost use Rattle.al_record.specs.Columns.{Reads, ReadsOne, ReadsAll};
-ghost use Rattle.al_record.specs.Canonical.{canonical, are_canonical};
+ghost use Rattle.al_msgpack.specs.Rising.{canonical, are_canonical};
 
 use crate::fault::ReadError;
 use crate::kind::field;
