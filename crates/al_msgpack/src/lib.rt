@@ -1,6 +1,7 @@
 //! Canonical MessagePack: one spelling for each value, and each fault at its place.
 #![tactic(auto)]
 
+mod copy;
 mod fault;
 mod head;
 mod key;

@@ -15,7 +15,7 @@ use Rattle.al_txn.specs.declared.body.Body.{Body}
 use Rattle.al_txn.specs.declared.body.Body.TheVariants as bodies
 use Rattle.al_record.specs.Columns.{FieldOf, Format, Rule, number, flag, array, text, bytes, record_field, table, entries, rules_of}
 use Rattle.al_record.specs.Kinds.{both, by_name, text_kind, kind_fault}
-use Rattle.al_txn.specs.Kept.{others, all_placed}
+use Rattle.al_txn.specs.Kept.{others, merged}
 
 -- bytes of any number
 abbrev pub any_number : ℕ
@@ -34,6 +34,22 @@ common =
     array (codes "rekey") 32 (λ t. t.rekey.0) ∷
     array (codes "grp") 32 (λ t. t.group) ∷
     []
+
+-- the same in another group
+abbrev pub with_group : List ℕ → Txn → Txn
+with_group group t = record {
+  sender = t.sender;
+  fee = t.fee;
+  first = t.first;
+  last = t.last;
+  genesis_id = t.genesis_id;
+  genesis_hash = t.genesis_hash;
+  note = t.note;
+  lease = t.lease;
+  rekey = t.rekey;
+  group = group;
+  body = t.body;
+}
 
 abbrev pub of_type : List ℕ → List (FieldOf Txn)
 of_type name = text (codes "type") (λ _. name) ∷ common
@@ -123,6 +139,10 @@ afrz_txn = both (of_type (codes "afrz")) afrz
 abbrev pub appl_txn : List (FieldOf (Txn × AppCall))
 appl_txn = both (of_type (codes "appl")) appl
 
+-- the fields of appl that are not kept
+abbrev pub flat_appl : List (FieldOf (Txn × ℕ))
+flat_appl = both (of_type (codes "appl")) (number (codes "apid") (λ n. n) ∷ [])
+
 abbrev pub txn_rules : List ℕ → Option (List Rule)
 txn_rules kind =
     if bytes_eq kind (codes "pay") then Some (rules_of pay_txn) else
@@ -147,7 +167,7 @@ written t (bodies.KeyReg k) = entries keyreg_txn (t, k)
 written t (bodies.Config c) = entries acfg_txn (t, c)
 written t (bodies.Move m) = entries axfer_txn (t, m)
 written t (bodies.Freeze f) = entries afrz_txn (t, f)
-written t (bodies.App a) = all_placed a.rest (entries appl_txn (t, a))
+written t (bodies.App a) = merged a.rest (entries appl_txn (t, a))
 
 abbrev pub txn : Format Txn
 txn = record {

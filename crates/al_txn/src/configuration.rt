@@ -3,11 +3,11 @@ ghost use Rattle.std.specs.Prelude.{◌≡◌, IsTrue, IfOk, codes, Ok};
 ghost use Rattle.al_record.specs.Columns.{Reads, entries};
 ghost use Rattle.al_record.specs.Kinds.{text_kind};
 ghost use Rattle.al_record.specs.Canonical.{are_canonical};
-ghost use Rattle.al_txn.specs.Txn.{txn, asset_params, acfg_txn, flat_acfg};
+ghost use Rattle.al_txn.specs.Txn.{txn, asset_params, acfg_txn, flat_acfg, with_group};
 
 use crate::common::common;
 use crate::{Body, Config, Txn};
-use al_base::{Address, AssetParams};
+use al_base::{Address, AssetParams, Hash};
 use al_msgpack::{Entries, Entry};
 use al_record::{ANY_BYTES, Column, Content, HASH, ReadError, Shape};
 use al_record::{array, check, check_fields, check_ranges, flag, listed, map, number, put_map, text};
@@ -101,19 +101,19 @@ pub fn read_config(alloc: Global, entries: &[Entry]) -> Result<Txn, ReadError>
     Ok(common(alloc, entries, body)?)
 }
 
-/// The record of a transaction of this type.
-pub fn config_entries<'a>(alloc: Global, t: &'a Txn, c: &'a Config) -> Result<Entries, AllocError>
-    ensures { IfOk result (λ es. es ≡ entries acfg_txn (t.now, c.now)) }
+/// The record of a transaction of this type, with this group.
+pub fn config_entries<'a>(alloc: Global, t: &'a Txn, group: &'a Hash, c: &'a Config) -> Result<Entries, AllocError>
+    ensures { IfOk result (λ es. es ≡ entries acfg_txn (with_group group.now t.now, c.now)) }
 {
     let mut out = Entries::new(alloc);
     put_map(alloc, &mut out, "apar", params_entries(alloc, &c.params)?)?;
-    out.append(flat_entries(alloc, t, c.asset)?)?;
+    out.append(flat_entries(alloc, t, group, c.asset)?)?;
     Ok(out)
 }
 
 /// The fields after the parameters.
-fn flat_entries(alloc: Global, t: &Txn, asset: u64) -> Result<Entries, AllocError>
-    ensures { IfOk result (λ es. es ≡ entries flat_acfg (t.now, asset)) }
+fn flat_entries<'a>(alloc: Global, t: &'a Txn, group: &'a Hash, asset: u64) -> Result<Entries, AllocError>
+    ensures { IfOk result (λ es. es ≡ entries flat_acfg (with_group group.now t.now, asset)) }
 {
     listed(
         alloc,
@@ -124,7 +124,7 @@ fn flat_entries(alloc: Global, t: &Txn, asset: u64) -> Result<Entries, AllocErro
             Content::Number(t.first),
             Content::Text(&t.genesis_id),
             Content::Array(&t.genesis_hash),
-            Content::Array(&t.group),
+            Content::Array(group),
             Content::Number(t.last),
             Content::Array(&t.lease),
             Content::Bytes(&t.note),

@@ -3,11 +3,11 @@ ghost use Rattle.std.specs.Prelude.{◌≡◌, IsTrue, IfOk, codes, Ok};
 ghost use Rattle.al_record.specs.Columns.{Reads, AllShown, entries};
 ghost use Rattle.al_record.specs.Kinds.{text_kind};
 ghost use Rattle.al_record.specs.Canonical.{are_canonical};
-ghost use Rattle.al_txn.specs.Txn.{txn, afrz, afrz_txn};
+ghost use Rattle.al_txn.specs.Txn.{txn, afrz, afrz_txn, with_group};
 
 use crate::common::common;
 use crate::{Body, Freeze, Txn};
-use al_base::Address;
+use al_base::{Address, Hash};
 use al_msgpack::{Entries, Entry};
 use al_record::{ANY_BYTES, Column, Content, HASH, ReadError, Shape, check, array, flag, listed, number};
 use std::alloc::{AllocError, Global};
@@ -51,9 +51,9 @@ pub fn freeze_of(entries: &[Entry]) -> Freeze
     }
 }
 
-/// The record of a transaction of this type.
-pub fn freeze_entries<'a>(alloc: Global, t: &'a Txn, f: &'a Freeze) -> Result<Entries, AllocError>
-    ensures { IfOk result (λ es. es ≡ entries afrz_txn (t.now, f.now)) }
+/// The record of a transaction of this type, with this group.
+pub fn freeze_entries<'a>(alloc: Global, t: &'a Txn, group: &'a Hash, f: &'a Freeze) -> Result<Entries, AllocError>
+    ensures { IfOk result (λ es. es ≡ entries afrz_txn (with_group group.now t.now, f.now)) }
 {
     listed(
         alloc,
@@ -66,7 +66,7 @@ pub fn freeze_entries<'a>(alloc: Global, t: &'a Txn, f: &'a Freeze) -> Result<En
             Content::Number(t.first),
             Content::Text(&t.genesis_id),
             Content::Array(&t.genesis_hash),
-            Content::Array(&t.group),
+            Content::Array(group),
             Content::Number(t.last),
             Content::Array(&t.lease),
             Content::Bytes(&t.note),

@@ -2,11 +2,13 @@
 #![tactic(auto)]
 
 mod body;
+mod call;
 mod chain;
 mod common;
 mod configuration;
 mod effect;
 mod freezing;
+mod kept;
 mod payment;
 mod record;
 mod registration;

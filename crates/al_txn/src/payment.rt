@@ -3,11 +3,11 @@ ghost use Rattle.std.specs.Prelude.{◌≡◌, IsTrue, IfOk, codes, Ok};
 ghost use Rattle.al_record.specs.Columns.{Reads, AllShown, entries};
 ghost use Rattle.al_record.specs.Kinds.{text_kind};
 ghost use Rattle.al_record.specs.Canonical.{are_canonical};
-ghost use Rattle.al_txn.specs.Txn.{txn, pay, pay_txn};
+ghost use Rattle.al_txn.specs.Txn.{txn, pay, pay_txn, with_group};
 
 use crate::common::common;
 use crate::{Body, Pay, Txn};
-use al_base::Address;
+use al_base::{Address, Hash};
 use al_msgpack::{Entries, Entry};
 use al_record::{ANY_BYTES, Column, Content, HASH, ReadError, Shape, check, array, listed, number};
 use std::alloc::{AllocError, Global};
@@ -51,9 +51,9 @@ pub fn pay_of(entries: &[Entry]) -> Pay
     }
 }
 
-/// The record of a transaction of this type.
-pub fn pay_entries<'a>(alloc: Global, t: &'a Txn, p: &'a Pay) -> Result<Entries, AllocError>
-    ensures { IfOk result (λ es. es ≡ entries pay_txn (t.now, p.now)) }
+/// The record of a transaction of this type, with this group.
+pub fn pay_entries<'a>(alloc: Global, t: &'a Txn, group: &'a Hash, p: &'a Pay) -> Result<Entries, AllocError>
+    ensures { IfOk result (λ es. es ≡ entries pay_txn (with_group group.now t.now, p.now)) }
 {
     listed(
         alloc,
@@ -65,7 +65,7 @@ pub fn pay_entries<'a>(alloc: Global, t: &'a Txn, p: &'a Pay) -> Result<Entries,
             Content::Number(t.first),
             Content::Text(&t.genesis_id),
             Content::Array(&t.genesis_hash),
-            Content::Array(&t.group),
+            Content::Array(group),
             Content::Number(t.last),
             Content::Array(&t.lease),
             Content::Bytes(&t.note),

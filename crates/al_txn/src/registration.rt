@@ -3,10 +3,11 @@ ghost use Rattle.std.specs.Prelude.{◌≡◌, IsTrue, IfOk, codes, Ok};
 ghost use Rattle.al_record.specs.Columns.{Reads, AllShown, entries};
 ghost use Rattle.al_record.specs.Kinds.{text_kind};
 ghost use Rattle.al_record.specs.Canonical.{are_canonical};
-ghost use Rattle.al_txn.specs.Txn.{txn, keyreg, keyreg_txn};
+ghost use Rattle.al_txn.specs.Txn.{txn, keyreg, keyreg_txn, with_group};
 
 use crate::common::common;
 use crate::{Body, KeyReg, Txn};
+use al_base::Hash;
 use al_msgpack::{Entries, Entry};
 use al_record::{ANY_BYTES, Column, Content, HASH, ReadError, Shape, check, array, flag, listed, number};
 use std::alloc::{AllocError, Global};
@@ -58,9 +59,9 @@ pub fn keyreg_of(entries: &[Entry]) -> KeyReg
     }
 }
 
-/// The record of a transaction of this type.
-pub fn keyreg_entries<'a>(alloc: Global, t: &'a Txn, k: &'a KeyReg) -> Result<Entries, AllocError>
-    ensures { IfOk result (λ es. es ≡ entries keyreg_txn (t.now, k.now)) }
+/// The record of a transaction of this type, with this group.
+pub fn keyreg_entries<'a>(alloc: Global, t: &'a Txn, group: &'a Hash, k: &'a KeyReg) -> Result<Entries, AllocError>
+    ensures { IfOk result (λ es. es ≡ entries keyreg_txn (with_group group.now t.now, k.now)) }
 {
     listed(
         alloc,
@@ -70,7 +71,7 @@ pub fn keyreg_entries<'a>(alloc: Global, t: &'a Txn, k: &'a KeyReg) -> Result<En
             Content::Number(t.first),
             Content::Text(&t.genesis_id),
             Content::Array(&t.genesis_hash),
-            Content::Array(&t.group),
+            Content::Array(group),
             Content::Number(t.last),
             Content::Array(&t.lease),
             Content::Flag(k.nonpart),

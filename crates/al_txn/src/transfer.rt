@@ -3,11 +3,11 @@ ghost use Rattle.std.specs.Prelude.{◌≡◌, IsTrue, IfOk, codes, Ok};
 ghost use Rattle.al_record.specs.Columns.{Reads, AllShown, entries};
 ghost use Rattle.al_record.specs.Kinds.{text_kind};
 ghost use Rattle.al_record.specs.Canonical.{are_canonical};
-ghost use Rattle.al_txn.specs.Txn.{txn, axfer, axfer_txn};
+ghost use Rattle.al_txn.specs.Txn.{txn, axfer, axfer_txn, with_group};
 
 use crate::common::common;
 use crate::{Body, AssetMove, Txn};
-use al_base::Address;
+use al_base::{Address, Hash};
 use al_msgpack::{Entries, Entry};
 use al_record::{ANY_BYTES, Column, Content, HASH, ReadError, Shape, check, array, listed, number};
 use std::alloc::{AllocError, Global};
@@ -55,9 +55,9 @@ pub fn move_of(entries: &[Entry]) -> AssetMove
     }
 }
 
-/// The record of a transaction of this type.
-pub fn move_entries<'a>(alloc: Global, t: &'a Txn, m: &'a AssetMove) -> Result<Entries, AllocError>
-    ensures { IfOk result (λ es. es ≡ entries axfer_txn (t.now, m.now)) }
+/// The record of a transaction of this type, with this group.
+pub fn move_entries<'a>(alloc: Global, t: &'a Txn, group: &'a Hash, m: &'a AssetMove) -> Result<Entries, AllocError>
+    ensures { IfOk result (λ es. es ≡ entries axfer_txn (with_group group.now t.now, m.now)) }
 {
     listed(
         alloc,
@@ -71,7 +71,7 @@ pub fn move_entries<'a>(alloc: Global, t: &'a Txn, m: &'a AssetMove) -> Result<E
             Content::Number(t.first),
             Content::Text(&t.genesis_id),
             Content::Array(&t.genesis_hash),
-            Content::Array(&t.group),
+            Content::Array(group),
             Content::Number(t.last),
             Content::Array(&t.lease),
             Content::Bytes(&t.note),
