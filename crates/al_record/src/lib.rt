@@ -15,6 +15,6 @@ pub use fault::{Fault, ReadError};
 pub use kind::{field, number_kind, range, text_kind};
 pub use lookup::{addresses, array, bytes, find, flag, list, map, number, text};
 pub use pass::{check, check_fields, check_ranges, fitting};
-pub use record::{Record, list_of_all, read_all};
+pub use record::{Record, list_of_all, read_all, read_member};
 pub use shape::{ANY_BYTES, COUNT, Column, HASH, Shape};
 pub use write::{Content, listed, put, put_list, put_map};

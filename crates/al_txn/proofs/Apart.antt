@@ -1,15 +1,16 @@
 -- Kept fields and the others are the whole.
-use Rattle.std.proofs.Common.{◌≡◌, ◌×◌, ℕ, zero, suc, Bool, true, false, not, List, [], ◌∷◌, ◌++◌, take, drop, map, refl, sym, ap, ap₂, ◌∙◌, subst, inl, inr}
+use Rattle.std.proofs.Common.{◌≡◌, ℕ, zero, suc, Bool, true, false, not, List, [], ◌∷◌, ◌++◌, take, drop, map, refl, sym, ap, ap₂, ◌∙◌, subst, inl, inr}
 use Rattle.std.specs.List.{list_all}
 use Rattle.std.specs.Str.{bytes_eq}
 use Rattle.std.specs.Ordering.{is_lt, nat_cmp}
+use Rattle.std.specs.declared.cmp.Ordering.TheVariants.{Equal}
 use Rattle.std.specs.Cmp.Lexicographic.{slice_cmp}
 use Rattle.std.proofs.lemmas.Bool.{and_parts, and_from, cases_Bool, false_from_ne_true}
-use Rattle.std.proofs.lemmas.Cmp.{nat_list_cmp_total}
+use Rattle.std.proofs.lemmas.Cmp.{nat_list_cmp_total, tied_itself}
 use Rattle.al_msgpack.specs.declared.val.Entry.{Entry}
 use Rattle.al_msgpack.specs.Rising.{rises, keys, canonical, are_canonical}
 use Rattle.al_record.specs.Columns.{FieldOf, Rule, heads, rule, rules_of, value_at, range_fault, AllShown}
-use Rattle.al_record.proofs.Order.{IsLess, IsBelow, Rising, rising, not_itself, same_name, below_more}
+use Rattle.al_record.proofs.Order.{IsLess, IsBelow, Rising, rising, same_name, below_more}
 use Rattle.al_record.proofs.Engine.{names}
 use Rattle.al_txn.specs.Kept.{is_kept, kept, others, below, merged}
 
@@ -85,8 +86,13 @@ others_canonical es h =
     let p = and_parts _ _ h in
     and_from _ _ (rises_from _ (others_rise es (rising _ p.0))) (vals_others es p.1)
 
+not_itself : (a : List ℕ) → IsLess a a → ⊥
+not_itself a h =
+    let same : slice_cmp nat_cmp a a ≡ Equal = tied_itself nat_list_cmp_total a in
+    absurd cc
+
 not_before : (a b : List ℕ) → IsLess a b → is_lt (slice_cmp nat_cmp b a) ≡ false
-not_before a b h = false_from_ne_true _ (λ t. let back = rising (b ∷ a ∷ []) (and_from _ _ t refl) in not_itself a a (nat_list_cmp_total.trans a b a h back.0.0) refl)
+not_before a b h = false_from_ne_true _ (λ t. let back = rising (b ∷ a ∷ []) (and_from _ _ t refl) in not_itself a (nat_list_cmp_total.trans a b a h back.0.0))
 
 -- an entry below all goes first
 kept_first : (k : Entry) (ks os : List Entry) → IsBelow k.key (keys os) → merged (k ∷ ks) os ≡ k ∷ merged ks os

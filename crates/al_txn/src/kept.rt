@@ -1,5 +1,7 @@
 //! The fields of an application's call that are kept as they stand.
 ghost use Rattle.std.specs.Prelude.{◌≡◌, ◌++◌, ◌≤◌, ℕ, length, IfOk, OnOk};
+ghost use Rattle.std.specs.Ordering.{is_lt, nat_cmp};
+ghost use Rattle.std.specs.Cmp.Lexicographic.{slice_cmp};
 ghost use Rattle.al_txn.specs.Kept.{is_kept, kept, below, merged};
 
 use al_msgpack::{Entries, Entry};
@@ -34,9 +36,10 @@ pub fn merged(alloc: Global, kept: &[Entry], flat: &[Entry]) -> Result<Entries, 
     let mut rest = kept;
     for e in flat {
         let n = below(e.key.as_slice(), rest);
-        push_all(alloc, &mut out, &rest[..n])?;
+        let (lower, higher) = rest.split_at(n);
+        push_all(alloc, &mut out, lower)?;
         out.push(e.copy(alloc)?)?;
-        rest = &rest[n..];
+        rest = higher;
     }
     push_all(alloc, &mut out, rest)?;
     Ok(out)
@@ -49,12 +52,18 @@ fn below(key: &[u8], entries: &[Entry]) -> usize
 {
     let mut n = 0;
     for e in entries {
-        if e.key.as_slice() >= key {
+        if !is_below(e.key.as_slice(), key) {
             return n;
         }
         n += 1;
     }
     n
+}
+
+fn is_below(a: &[u8], b: &[u8]) -> bool
+    ensures { result ≡ is_lt (slice_cmp nat_cmp a.now b.now) }
+{
+    a < b
 }
 
 fn push_all(alloc: Global, out: &mut Entries, entries: &[Entry]) -> Result<(), AllocError>

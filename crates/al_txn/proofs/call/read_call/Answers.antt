@@ -10,7 +10,7 @@ use Rattle.al_txn.proofs.Apart.{shown_others, others_canonical, join}
 use Rattle.al_txn.proofs.call.read_call.Goals as goal
 
 pub returns-in_err-check_call : goal.returns-in_err-check_call
-returns-in_err-check_call c = passes_on txn c.args.entries.now _ _ c.from_residual-in_err-check_call.result (ap (txn_fault c.args.entries.now) c.requires.kind) c.in_err-check_call.ensures c.from_residual-in_err-check_call.ensures.1
+returns-in_err-check_call c = passes_on txn c.args.entries.now _ _ c.from_residual.result (ap (txn_fault c.args.entries.now) c.requires.kind) c.in_err-check_call.ensures c.from_residual.ensures.1
 
 pub returns : goal.returns
 returns c =
