@@ -23,7 +23,8 @@ pub fn check_fields(alloc: Global, entries: &[Entry], columns: &[Column]) -> Res
     Ok(())
 }
 
-fn fitting(e: &Entry, columns: &[Column]) -> bool
+/// An entry of a known name and its family, not zero.
+pub fn fitting(e: &Entry, columns: &[Column]) -> bool
     ensures { result ≡ fitting (heads (table_of columns.now)) e.now }
 {
     for c in columns {
