@@ -1,0 +1,92 @@
+-- What one connection is: the law of serving it.
+use Rattle.std.specs.Prelude.{◌≡◌, ◌⊎◌, ◌≤◌, ◌<◌, ℕ, List, [], ◌∷◌, ◌++◌, length, map, All, Option, Some}
+use Rattle.std.specs.List.{flat_map}
+use mathlib.Core.List.{IsPrefix}
+use Rattle.al_base.specs.Causes.{Left, Wrote, IsAtEnd}
+use Rattle.al_block.specs.declared.block.Block.{Block}
+use Rattle.al_eval.specs.State.{State}
+use Rattle.al_http.specs.declared.request.Request.{Request}
+use Rattle.al_http.specs.Requests.{Message, IsMessage, asked, stream_of, IsUnfinished, IsRefusedPiece}
+use Rattle.al_http.specs.Answers.{answer_text}
+use Rattle.al_node.specs.declared.states.Told.{Told}
+use Rattle.al_node.specs.declared.link.Ended.{Ended}
+use Rattle.al_node.specs.declared.link.Ended.TheVariants as ended
+use Rattle.al_node.specs.Held.{Held, IsValid}
+use Rattle.al_node.specs.Replies.{IsAnswer, not_built}
+
+-- the bytes of an answer
+abbrev pub told_text : Told → List ℕ
+told_text t = answer_text t.answer
+
+-- what refuses a piece that is no request
+abbrev pub refusal_text : List ℕ
+refusal_text = answer_text not_built
+
+-- what a request asks, and its answer
+abbrev pub IsAnswered : State → List Block → ℕ → Message → Told → Type 0
+IsAnswered o all low m t = (ask : Request) × (asked m ≡ Some ask) × IsAnswer o all low ask m.body t
+
+-- the answers to the requests, in order: the fronts do not fall
+abbrev pub Answers : State → List Block → ℕ → List Message → List Told → Type 0
+Answers o all low [] [] = Unit {0}
+Answers o all low (m ∷ ms) (t ∷ ts) = IsAnswered o all low m t × Answers o all t.front ms ts
+Answers o all low [] (t ∷ ts) = ⊥
+Answers o all low (m ∷ ms) [] = ⊥
+
+abbrev pub last_front : ℕ → List Told → ℕ
+last_front low [] = low
+last_front low (t ∷ ts) = last_front t.front ts
+
+-- what is kept while a connection is served: waiting is what was taken and not yet answered
+pub record Serving (before after : Held) (left_before left_now written_before written_now : Option (List ℕ)) (waiting : List ℕ) (requests : List Message) (told : List Told) : Type 0 where
+  pub cut : Left left_before left_now (stream_of requests waiting)
+  pub each : All IsMessage requests
+  pub written : Wrote written_before written_now (flat_map told_text told)
+  pub origin : after.origin ≡ before.origin
+  pub lists : IsPrefix before.blocks after.blocks
+  pub answers : Answers before.origin after.blocks (length before.blocks) requests told
+  pub top : last_front (length before.blocks) told ≡ length after.blocks
+
+-- why it ended, by the rest of the taken bytes, and which text stands behind the answers
+abbrev pub EndsAs : Ended → Option (List ℕ) → List ℕ → List Message → List ℕ → List (List ℕ) → Type 0
+EndsAs ended.Finished left_now taken requests rest behind = (behind ≡ []) × (rest ≡ []) × IsAtEnd left_now
+EndsAs (ended.CutShort at) left_now taken requests rest behind = (behind ≡ []) × (0 < length rest) × IsUnfinished rest × IsAtEnd left_now × (at ≡ length taken)
+EndsAs ended.Unreadable left_now taken requests rest behind = IsRefusedPiece rest × (behind ≡ refusal_text ∷ [])
+EndsAs ended.SourceFault left_now taken requests rest behind = (behind ≡ []) × IsUnfinished rest
+EndsAs ended.SinkFault left_now taken requests rest behind = (behind ≡ []) ⊎ (IsRefusedPiece rest × (behind ≡ refusal_text ∷ []))
+EndsAs ended.Spent left_now taken requests rest behind = (behind ≡ []) × (length requests ≡ 1000000)
+EndsAs ended.Memory left_now taken requests rest behind = behind ≡ []
+
+-- the texts are written whole, but for the last where the sink failed
+abbrev pub IsPartOf : List ℕ → List (List ℕ) → Type 0
+IsPartOf written texts = (whole : List (List ℕ)) × (last part : List ℕ) × (texts ≡ whole ++ last ∷ []) × IsPrefix part last × (written ≡ flat_map (λ text. text) whole ++ part)
+
+abbrev pub IsWritten : Ended → List ℕ → List (List ℕ) → Type 0
+IsWritten ended.SinkFault written texts = IsPartOf written texts
+IsWritten ended.Finished written texts = written ≡ flat_map (λ text. text) texts
+IsWritten (ended.CutShort at) written texts = written ≡ flat_map (λ text. text) texts
+IsWritten ended.Unreadable written texts = written ≡ flat_map (λ text. text) texts
+IsWritten ended.SourceFault written texts = written ≡ flat_map (λ text. text) texts
+IsWritten ended.Spent written texts = written ≡ flat_map (λ text. text) texts
+IsWritten ended.Memory written texts = written ≡ flat_map (λ text. text) texts
+
+-- the whole law of one connection
+pub record Served (before after : Held) (left_now : Option (List ℕ)) (taken written : List ℕ) (ended : Ended) (requests : List Message) (told : List Told) (rest : List ℕ) (behind : List (List ℕ)) : Type 0 where
+  -- the bytes taken are the requests, and then the rest
+  pub cut : taken ≡ stream_of requests rest
+  pub each : All IsMessage requests
+  -- what is written is the answers in order
+  pub texts : IsWritten ended written (map told_text told ++ behind)
+  pub ends : EndsAs ended left_now taken requests rest behind
+  -- one chain of accepted blocks, which grows
+  pub origin : after.origin ≡ before.origin
+  pub lists : IsPrefix before.blocks after.blocks
+  pub valid : IsValid after.origin after.blocks
+  -- each answer is that of its request at its front
+  pub answers : Answers before.origin after.blocks (length before.blocks) requests told
+  pub top : last_front (length before.blocks) told ≡ length after.blocks
+
+abbrev pub Serves : Held → Held → Option (List ℕ) → Option (List ℕ) → Option (List ℕ) → Option (List ℕ) → Ended → Type 0
+Serves before after left_before left_now written_before written_now ended =
+    (taken : List ℕ) × (written : List ℕ) × (requests : List Message) × (told : List Told) × (rest : List ℕ) × (behind : List (List ℕ))
+    × Left left_before left_now taken × Wrote written_before written_now written × Served before after left_now taken written ended requests told rest behind

@@ -1,0 +1,6 @@
+pub mod Plain
+pub mod Held
+pub mod Replies
+pub mod Taking
+pub mod Connection
+pub mod Sessions
