@@ -4,9 +4,9 @@ use Rattle.std.proofs.lemmas.List.{take_all, take-append-le, append-nil}
 use mathlib.Core.List.{IsPrefix}
 use Rattle.al_block.specs.declared.block.Block.{Block}
 use Rattle.al_eval.specs.State.{State, replay}
-use Rattle.al_http.specs.declared.request.Request.{Request}
-use Rattle.al_http.specs.declared.request.Request.TheVariants as asks
-use Rattle.al_http.specs.Requests.{Message, asked}
+use Rattle.al_http.specs.declared.asking.Request.{Request}
+use Rattle.al_http.specs.declared.asking.Request.TheVariants as asks
+use Rattle.al_http.specs.Requests.{Message}
 use Rattle.al_http.specs.Answers.{memory_answer}
 use Rattle.al_node.specs.declared.states.Told.{Told}
 use Rattle.al_node.specs.Replies.{Posts, accepted, refused, unbuilt, Replies, AddsBlock, IsAnswer, looked}

@@ -8,14 +8,14 @@ use mathlib.Core.List.{IsPrefix}
 use Rattle.al_base.specs.Causes.{Left, Wrote, IsAtEnd}
 use Rattle.al_block.specs.declared.block.Block.{Block}
 use Rattle.al_eval.specs.State.{State}
-use Rattle.al_http.specs.declared.request.Request.{Request}
-use Rattle.al_http.specs.Requests.{Message, IsMessage, asked, spell, stream_of, IsUnfinished, IsRefusedPiece}
+use Rattle.al_http.specs.declared.asking.Request.{Request}
+use Rattle.al_http.specs.Requests.{Message, IsRequest, AsksFor, spell, stream_of, IsUnfinished}
 use Rattle.al_http.specs.Answers.{memory_answer}
 use Rattle.al_node.specs.declared.states.Told.{Told}
 use Rattle.al_node.specs.declared.link.Ended.TheVariants as ended
 use Rattle.al_node.specs.Held.{Held, IsValid}
 use Rattle.al_node.specs.Replies.{IsAnswer}
-use Rattle.al_node.specs.Taking.{Grown}
+use Rattle.al_node.specs.Taking.{Grown, IsRefusedPiece}
 use Rattle.al_node.specs.Connection.{told_text, refusal_text, IsAnswered, Answers, last_front, Serving, Serves}
 use Rattle.al_node.proofs.AnswerLemmas.{prefix_self, prefix_then, answer_sent, answers_grow, answers_more, last_front-push}
 use Rattle.al_node.proofs.TakingLemmas.{left_then, left_none}
@@ -58,7 +58,7 @@ length_more requests m =
 pub begins : (held : Held) (a w : Option (List ℕ)) → Serving held held a a w w [] [] []
 begins held a w = record {
   cut = left_none a;
-  each = All-nil IsMessage;
+  each = All-nil IsRequest;
   written = wrote_none w;
   origin = refl;
   lists = prefix_self held.blocks;
@@ -81,14 +81,14 @@ took before after a b c w v old new requests told s p = record {
 -- a request was answered, whatever was written of the answer
 pub record Replied (before after : Held) (a b : Option (List ℕ)) (rest : List ℕ) (requests : List Message) (told : List Told) : Type 0 where
   pub cut : Left a b (stream_of requests rest)
-  pub each : All IsMessage requests
+  pub each : All IsRequest requests
   pub origin : after.origin ≡ before.origin
   pub lists : IsPrefix before.blocks after.blocks
   pub answers : Answers before.origin after.blocks (length before.blocks) requests told
   pub top : last_front (length before.blocks) told ≡ length after.blocks
 
 -- what was asked of the ledger was answered, and the answer was sent, or that there is no memory for it
-pub answered : (before mid after : Held) (a b w v : Option (List ℕ)) (old rest : List ℕ) (requests : List Message) (told : List Told) (m : Message) (ask : Request) (t sent : Told) → Serving before mid a b w v old requests told → old ≡ spell m ++ rest → IsMessage m → asked m ≡ Some ask
+pub answered : (before mid after : Held) (a b w v : Option (List ℕ)) (old rest : List ℕ) (requests : List Message) (told : List Told) (m : Message) (ask : Request) (t sent : Told) → Serving before mid a b w v old requests told → old ≡ spell m ++ rest → IsRequest m → AsksFor m.head ask (length m.body)
     → after.origin ≡ mid.origin → IsPrefix mid.blocks after.blocks → t.front ≡ length after.blocks → IsAnswer mid.origin after.blocks (length mid.blocks) ask m.body t → (sent ≡ t) ⊎ (sent ≡ record t { answer = memory_answer })
     → Replied before after a b rest (requests ++ m ∷ []) (told ++ sent ∷ [])
 answered before mid after a b w v old rest requests told m ask t sent s is valid asks same grows top x which =
@@ -98,7 +98,7 @@ answered before mid after a b w v old rest requests told m ask t sent s is valid
     let front : sent.front ≡ t.front = elim which [ inl e ↦ ap (λ (u : Told). u.front) e | inr e ↦ ap (λ (u : Told). u.front) e ] in
     record {
       cut = subst (Left a b) (ap (stream_of requests) is ∙ stream_more requests m rest) s.cut;
-      each = All-push IsMessage requests m s.each valid;
+      each = All-push IsRequest requests m s.each valid;
       origin = same ∙ s.origin;
       lists = prefix_then before.blocks mid.blocks after.blocks s.lists grows;
       answers = answers_more before.origin after.blocks (length before.blocks) requests told m sent (answers_grow before.origin mid.blocks after.blocks (length before.blocks) requests told grows s.answers) (ask, asks, low);

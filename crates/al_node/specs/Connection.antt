@@ -1,18 +1,19 @@
 -- What one connection is: the law of serving it.
-use Rattle.std.specs.Prelude.{◌≡◌, ◌⊎◌, ◌≤◌, ◌<◌, ℕ, List, [], ◌∷◌, ◌++◌, length, map, All, Option, Some}
+use Rattle.std.specs.Prelude.{◌≡◌, ◌⊎◌, ◌≤◌, ◌<◌, ℕ, List, [], ◌∷◌, ◌++◌, length, map, All, Option}
 use Rattle.std.specs.List.{flat_map}
 use mathlib.Core.List.{IsPrefix}
 use Rattle.al_base.specs.Causes.{Left, Wrote, IsAtEnd}
 use Rattle.al_block.specs.declared.block.Block.{Block}
 use Rattle.al_eval.specs.State.{State}
-use Rattle.al_http.specs.declared.request.Request.{Request}
-use Rattle.al_http.specs.Requests.{Message, IsMessage, asked, stream_of, IsUnfinished, IsRefusedPiece}
+use Rattle.al_http.specs.declared.asking.Request.{Request}
+use Rattle.al_http.specs.Requests.{Message, IsRequest, AsksFor, stream_of, IsUnfinished}
 use Rattle.al_http.specs.Answers.{answer_text}
 use Rattle.al_node.specs.declared.states.Told.{Told}
 use Rattle.al_node.specs.declared.link.Ended.{Ended}
 use Rattle.al_node.specs.declared.link.Ended.TheVariants as ended
 use Rattle.al_node.specs.Held.{Held, IsValid}
 use Rattle.al_node.specs.Replies.{IsAnswer, not_built}
+use Rattle.al_node.specs.Taking.{IsRefusedPiece}
 
 -- the bytes of an answer
 abbrev pub told_text : Told → List ℕ
@@ -24,7 +25,7 @@ refusal_text = answer_text not_built
 
 -- what a request asks, and its answer
 abbrev pub IsAnswered : State → List Block → ℕ → Message → Told → Type 0
-IsAnswered o all low m t = (ask : Request) × (asked m ≡ Some ask) × IsAnswer o all low ask m.body t
+IsAnswered o all low m t = (ask : Request) × AsksFor m.head ask (length m.body) × IsAnswer o all low ask m.body t
 
 -- the answers to the requests, in order: the fronts do not fall
 abbrev pub Answers : State → List Block → ℕ → List Message → List Told → Type 0
@@ -40,7 +41,7 @@ last_front low (t ∷ ts) = last_front t.front ts
 -- what is kept while a connection is served: waiting is what was taken and not yet answered
 pub record Serving (before after : Held) (left_before left_now written_before written_now : Option (List ℕ)) (waiting : List ℕ) (requests : List Message) (told : List Told) : Type 0 where
   pub cut : Left left_before left_now (stream_of requests waiting)
-  pub each : All IsMessage requests
+  pub each : All IsRequest requests
   pub written : Wrote written_before written_now (flat_map told_text told)
   pub origin : after.origin ≡ before.origin
   pub lists : IsPrefix before.blocks after.blocks
@@ -74,7 +75,7 @@ IsWritten ended.Memory written texts = written ≡ flat_map (λ text. text) text
 pub record Served (before after : Held) (left_now : Option (List ℕ)) (taken written : List ℕ) (ended : Ended) (requests : List Message) (told : List Told) (rest : List ℕ) (behind : List (List ℕ)) : Type 0 where
   -- the bytes taken are the requests, and then the rest
   pub cut : taken ≡ stream_of requests rest
-  pub each : All IsMessage requests
+  pub each : All IsRequest requests
   -- what is written is the answers in order
   pub texts : IsWritten ended written (map told_text told ++ behind)
   pub ends : EndsAs ended left_now taken requests rest behind

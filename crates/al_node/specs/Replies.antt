@@ -9,12 +9,12 @@ use Rattle.al_rows.specs.declared.row.Row.TheVariants as rows
 use Rattle.al_moves.specs.declared.rule.Rule.{Rule}
 use Rattle.al_eval.specs.State.{State, Refusal, step, replay, row_at, level_at}
 use Rattle.al_eval.specs.State.Refusal as refusals
-use Rattle.al_http.specs.declared.request.Request.{Request}
-use Rattle.al_http.specs.declared.request.Request.TheVariants as asks
+use Rattle.al_http.specs.declared.asking.Request.{Request}
+use Rattle.al_http.specs.declared.asking.Request.TheVariants as asks
 use Rattle.al_http.specs.declared.answer.Answer.{Answer}
 use Rattle.al_http.specs.declared.answer.Answer.TheVariants as answers
 use Rattle.al_http.specs.declared.answer.ErrorName.TheVariants as errors
-use Rattle.al_http.specs.Answers.{nothing, memory_answer}
+use Rattle.al_http.specs.Answers.{nothing, memory_answer, not_built_answer}
 use Rattle.al_node.specs.declared.states.Told.{Told}
 use Rattle.al_node.specs.Plain.{is_plain}
 use Rattle.al_node.specs.Held.{Held}
@@ -52,7 +52,7 @@ broken_at front place rule =
     answers.Refused 422 errors.Broken (record nothing { front = Some front; place = Some place; rule = Some rule.number; has = rule.has; needs = rule.needs; who = if nat_eq rule.number 42 then None else rule.who })
 
 abbrev pub not_built : Answer
-not_built = answers.Refused 501 errors.NotBuilt nothing
+not_built = not_built_answer
 
 abbrev pub is_shown : Rule → Bool
 is_shown rule = nat_eq rule.number 40 || nat_eq rule.number 42
