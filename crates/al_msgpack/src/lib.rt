@@ -7,6 +7,7 @@
 //! Containers nest at most 16 deep.
 #![tactic(auto)]
 
+mod copy;
 mod fault;
 mod head;
 mod key;

@@ -41,8 +41,8 @@ pub fn read_all<R: Record>(alloc: Global, vals: &[Val]) -> Result<Items<R>, Read
     Ok(out)
 }
 
-/// The value of one member.
-fn read_member<R: Record>(alloc: Global, v: &Val) -> Result<R, ReadError>
+/// The value of one member, or its first fault.
+pub fn read_member<R: Record>(alloc: Global, v: &Val) -> Result<R, ReadError>
     requires { IsTrue (canonical v.now) }
     ensures { ReadsOne R.format v.now result }
 {

@@ -2,11 +2,25 @@
 #![tactic(auto)]
 
 mod body;
+mod call;
 mod chain;
+mod common;
+mod configuration;
 mod effect;
+mod effect_record;
+mod freezing;
+mod inner;
+mod item;
+mod kept;
+mod payment;
+mod record;
+mod registration;
+mod transfer;
 mod txn;
 
 pub use body::{AppCall, AssetMove, Body, Config, Freeze, KeyReg, Pay};
 pub use chain::Chain;
 pub use effect::{Effect, Effects, Inner};
+pub use item::{ItemFault, decode_item};
+pub use record::{read_txn, txn_entries};
 pub use txn::{Item, Items, Txn};

@@ -1,0 +1,4 @@
+pub mod Kept
+pub mod Txn
+pub mod Effect
+pub mod Item
