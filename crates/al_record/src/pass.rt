@@ -24,13 +24,8 @@ pub fn check_fields(alloc: Global, entries: &[Entry], columns: &[Column]) -> Res
     Ok(())
 }
 
-<<<<<<< HEAD
-/// A field of the table, of its family and not zero.
-fn fitting(e: &Entry, columns: &[Column]) -> bool
-=======
 /// An entry of a known name and its family, not zero.
 pub fn fitting(e: &Entry, columns: &[Column]) -> bool
->>>>>>> 866c8fccd876e4cb11a7db47f348db737be8f41e
     ensures { result ≡ fitting (heads (table_of columns.now)) e.now }
 {
     for c in columns {
