@@ -16,6 +16,8 @@ mod payment;
 mod record;
 mod registration;
 mod transfer;
+mod form;
+mod id;
 mod txn;
 
 pub use body::{AppCall, AssetMove, Body, Config, Freeze, KeyReg, Pay};
@@ -23,4 +25,6 @@ pub use chain::Chain;
 pub use effect::{Effect, Effects, Inner};
 pub use item::{ItemFault, decode_item};
 pub use record::{read_txn, txn_entries};
+pub use form::{Ill, well_formed};
+pub use id::txid;
 pub use txn::{Item, Items, Txn};
