@@ -2,3 +2,4 @@ pub mod Kept
 pub mod Txn
 pub mod Effect
 pub mod Item
+pub mod Ids

@@ -1,7 +1,8 @@
 //! The records of effects.
-ghost use Rattle.std.specs.Prelude.{◌≡◌, IsTrue, IfOk, IfErr, None, Ok, codes};
+ghost use Rattle.std.specs.Prelude.{◌≡◌, ◌∷◌, [], IsTrue, IfOk, IfErr, None, Ok, codes, length};
 ghost use Rattle.al_base.specs.Name.{name_of};
-ghost use Rattle.al_record.specs.Columns.{Reads, Fails, bytes_of, entries, value_at};
+ghost use Rattle.al_record.specs.Columns.{Reads, Fails, bytes_of, bytes_put, entries, number_put, value_at};
+ghost use Rattle.al_record.specs.Code.{listed, table_of};
 ghost use Rattle.al_record.specs.Kinds.{number_kind};
 ghost use Rattle.al_record.specs.Canonical.{are_canonical};
 ghost use Rattle.al_txn.specs.Effect.{effect, name_fault, put_box, remove_box};
@@ -238,21 +239,31 @@ impl Record for Effect {
 fn put_box_entries(alloc: Global, name: &BoxName, value: &Bytes) -> Result<Entries, AllocError>
     ensures { IfOk result (λ es. es ≡ entries put_box (name_of name.now, value.now)) }
 {
-    let name = Bytes::of(alloc, name.as_slice())?;
-    listed(
-        alloc,
-        &PUT_BOX,
-        &[Content::Number(7), Content::Bytes(&name), Content::Bytes(value)],
-    )
+    let mut out = named_entries(alloc, &PUT_BOX[..2], 7, name)?;
+    out.append(listed(alloc, &PUT_BOX[2..], &[Content::Bytes(value)])?)?;
+    Ok(out)
 }
 
 fn remove_box_entries(alloc: Global, name: &BoxName) -> Result<Entries, AllocError>
     ensures { IfOk result (λ es. es ≡ entries remove_box (name_of name.now)) }
 {
+    named_entries(alloc, &REMOVE_BOX, 8, name)
+}
+
+/// The number of an effect and the name of a box.
+fn named_entries(
+    alloc: Global,
+    columns: &[Column],
+    number: u64,
+    name: &BoxName,
+) -> Result<Entries, AllocError>
+    requires { length columns.now ≡ 2 }
+    ensures { IfOk result (λ es. es ≡ listed (table_of columns.now) (number_put number ∷ bytes_put (name_of name.now) ∷ [])) }
+{
     let name = Bytes::of(alloc, name.as_slice())?;
     listed(
         alloc,
-        &REMOVE_BOX,
-        &[Content::Number(8), Content::Bytes(&name)],
+        columns,
+        &[Content::Number(number), Content::Bytes(&name)],
     )
 }
