@@ -1,4 +1,10 @@
-//! Canonical MessagePack: one spelling for each value, and each fault at its place.
+//! Canonical MessagePack: the wire format of transactions, blocks, rows and files.
+//!
+//! A part of MessagePack (msgpack.org): unsigned numbers, false and true, strings of any bytes,
+//! byte strings, lists, and maps whose keys are strings. Each value has exactly one spelling, since
+//! numbers and lengths take their shortest form and a map's keys rise strictly; no spelling is a
+//! proper prefix of another. There is no nil, no negative number, no float and no extension.
+//! Containers nest at most 16 deep.
 #![tactic(auto)]
 
 mod copy;

@@ -43,6 +43,7 @@ fn put_1(head: u8, n: u8, out: &mut Vec<u8>) -> Result<(), AllocError>
     Ok(out.push(n)?)
 }
 
+/// A number in its shortest form.
 fn put_num(n: u64, out: &mut Vec<u8>) -> Result<(), AllocError>
     ensures { OnOk result (out.new.items ≡ out.old.items ++ num_spelled n) }
 {
@@ -61,6 +62,7 @@ fn put_num(n: u64, out: &mut Vec<u8>) -> Result<(), AllocError>
     put_8(0xcf, n, out)
 }
 
+/// The head of a string of `n` bytes.
 fn put_string_head(n: usize, out: &mut Vec<u8>) -> Result<(), AllocError>
     ensures { OnOk result (out.new.items ≡ out.old.items ++ string_head n) }
 {
@@ -76,6 +78,7 @@ fn put_string_head(n: usize, out: &mut Vec<u8>) -> Result<(), AllocError>
     put_4(0xdb, (n % 0x1_0000_0000) as u32, out)
 }
 
+/// The head of a byte string of `n` bytes.
 fn put_bytes_head(n: usize, out: &mut Vec<u8>) -> Result<(), AllocError>
     ensures { OnOk result (out.new.items ≡ out.old.items ++ bytes_head n) }
 {
@@ -88,6 +91,7 @@ fn put_bytes_head(n: usize, out: &mut Vec<u8>) -> Result<(), AllocError>
     put_4(0xc6, (n % 0x1_0000_0000) as u32, out)
 }
 
+/// The head of a list of `n` members.
 fn put_list_head(n: usize, out: &mut Vec<u8>) -> Result<(), AllocError>
     ensures { OnOk result (out.new.items ≡ out.old.items ++ list_head n) }
 {
@@ -100,6 +104,7 @@ fn put_list_head(n: usize, out: &mut Vec<u8>) -> Result<(), AllocError>
     put_4(0xdd, (n % 0x1_0000_0000) as u32, out)
 }
 
+/// The head of a map of `n` entries.
 fn put_map_head(n: usize, out: &mut Vec<u8>) -> Result<(), AllocError>
     ensures { OnOk result (out.new.items ≡ out.old.items ++ map_head n) }
 {
@@ -112,6 +117,7 @@ fn put_map_head(n: usize, out: &mut Vec<u8>) -> Result<(), AllocError>
     put_4(0xdf, (n % 0x1_0000_0000) as u32, out)
 }
 
+/// A string, or a key.
 fn put_string(bytes: &[u8], out: &mut Vec<u8>) -> Result<(), AllocError>
     ensures { OnOk result (out.new.items ≡ out.old.items ++ (string_head (length bytes.now) ++ bytes.now)) }
 {

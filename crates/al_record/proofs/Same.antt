@@ -5,7 +5,7 @@ use Rattle.al_base.specs.declared.address.Address.{Address}
 use Rattle.al_record.specs.declared.fault.ReadError.{ReadError}
 use Rattle.al_record.specs.declared.fault.ReadError.TheVariants as errors
 use Rattle.al_record.specs.Columns.{Format, IsRecord, Reads}
-use Rattle.al_record.specs.Again.{Answers}
+use Rattle.al_record.specs.Laws.{Answers}
 
 abbrev pub Determined : {X : Type 0} → Format X → Type 0
 Determined {X} format = (x y : X) (es : List Entry) → IsRecord format x es → IsRecord format y es → x ≡ y
