@@ -11,9 +11,10 @@ use crate::Effect;
 use crate::inner::{inner_entries, read_inner};
 use al_base::{Address, BoxName, Bytes};
 use al_msgpack::{Entries, Entry};
-use al_record::{Column, Content, HASH, ReadError, Record, Shape};
-use al_record::{array, bytes, bytes_of, check, check_fields, check_ranges, find, listed, map};
-use al_record::{number, number_kind, put_map, range};
+use al_record::{
+    Column, Content, HASH, ReadError, Record, Shape, array, bytes, bytes_of, check, check_fields,
+    check_ranges, find, listed, map, number, number_kind, put_map, range,
+};
 use std::alloc::{AllocError, Global};
 
 const STATE: Shape = Shape::Bytes {
@@ -213,16 +214,28 @@ impl Record for Effect {
                 ],
             ),
             Effect::SetState { state } => {
-                listed(alloc, &WITH_STATE, &[Content::Number(2), Content::Bytes(state)])
+                listed(
+                    alloc,
+                    &WITH_STATE,
+                    &[Content::Number(2), Content::Bytes(state)],
+                )
             }
             Effect::Remove => listed(alloc, &BARE, &[Content::Number(3)]),
             Effect::OptIn { state } => {
-                listed(alloc, &WITH_STATE, &[Content::Number(4), Content::Bytes(state)])
+                listed(
+                    alloc,
+                    &WITH_STATE,
+                    &[Content::Number(4), Content::Bytes(state)],
+                )
             }
             Effect::SetLocal { who, state } => listed(
                 alloc,
                 &SET_LOCAL,
-                &[Content::Array(&who.0), Content::Number(5), Content::Bytes(state)],
+                &[
+                    Content::Array(&who.0),
+                    Content::Number(5),
+                    Content::Bytes(state),
+                ],
             ),
             Effect::OptOut => listed(alloc, &BARE, &[Content::Number(6)]),
             Effect::PutBox { name, value } => put_box_entries(alloc, name, value),
