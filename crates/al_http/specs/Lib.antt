@@ -1,0 +1,5 @@
+pub mod Fields
+pub mod Asks
+pub mod Requests
+pub mod Heads
+pub mod Laws
