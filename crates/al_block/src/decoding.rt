@@ -1,8 +1,9 @@
 //! Blocks from bytes, and bytes of blocks.
-ghost use Rattle.std.specs.Prelude.{◌≡◌, ◌++◌, ◌<◌, ◌^◌, length, OnOk};
+ghost use Rattle.std.specs.Prelude.{◌≡◌, ◌++◌, ◌<◌, ◌^◌, length, IsTrue, OnOk};
 ghost use Rattle.al_msgpack.specs.declared.val.Val.TheVariants as values;
+ghost use Rattle.al_msgpack.specs.Rising.{canonical};
 ghost use Rattle.al_msgpack.specs.Spelled.{spelled};
-ghost use Rattle.al_block.specs.Block.{block, BlockMeansUnless};
+ghost use Rattle.al_block.specs.Block.{block, BlockMeansUnless, ReadsSized};
 
 use crate::Block;
 use al_base::Bytes;
@@ -43,4 +44,23 @@ pub fn decode_block(alloc: Global, input: &[u8]) -> Result<Block, BlockFault>
         Err(ReadError::Fault(Fault::Range { name })) => Err(BlockFault::Range { name }),
         Err(ReadError::Memory) => Err(BlockFault::Memory),
     }
+}
+
+/// The block of a value that is spelled in so many bytes.
+fn read_sized(alloc: Global, v: &Val, size: usize) -> Result<Block, ReadError>
+    requires { IsTrue (canonical v.now) }
+    ensures { ReadsSized size v.now result }
+{
+    let block = read_member::<Block>(alloc, v)?;
+    if size > MOST_BYTES {
+        return Err(range(alloc, "t"));
+    }
+    Ok(block)
+}
+
+/// Appends the spelling of a block's record.
+pub fn encode_block(alloc: Global, b: &Block, out: &mut Vec<u8>) -> Result<(), AllocError>
+    ensures { OnOk result (out.new.items ≡ out.old.items ++ spelled (values.Map (block.write b.now))) }
+{
+    write(&Val::Map(b.entries(alloc)?), out)
 }
