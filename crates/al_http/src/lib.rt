@@ -5,6 +5,8 @@ mod asking;
 mod fields;
 mod head;
 mod laws;
+#[cfg(test)]
+mod tests;
 
 pub use asking::{Asked, Request};
 pub use fields::Named;
