@@ -1,0 +1,7 @@
+pub mod Floats
+pub mod Constants
+pub mod FieldLemmas
+pub mod HeadLemmas
+pub mod LawLemmas
+pub mod NumberLemmas
+pub mod AskLemmas

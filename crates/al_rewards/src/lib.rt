@@ -1,0 +1,6 @@
+//! Rewards: what an account has earned and not yet been given.
+#![tactic(auto)]
+
+mod share;
+
+pub use share::{MAX_BALANCE, Share, pending};

@@ -1,0 +1,4 @@
+pub mod Keys
+pub mod Maps
+pub mod Views
+pub mod Sames
