@@ -1,21 +1,19 @@
 -- Targets and their pieces.
-use Rattle.std.proofs.Common.{◌≡◌, ◌≢◌, ◌≤◌, ◌<◌, ◌+◌, ◌-◌, ◌*◌, ◌/◌, ◌^◌, ◌==◌, ℕ, Bool, true, false, List, [], ◌∷◌, ◌++◌, length, take, drop, refl, sym, ap, ap₂, ◌∙◌, arith, subst, length-append, append_assoc, codes, Option, Some, None, Result, Ok, Err}
+use Rattle.std.proofs.Common.{◌≡◌, ◌≤◌, ◌+◌, ◌*◌, ◌/◌, ◌==◌, ℕ, Bool, true, false, List, ◌++◌, length, take, drop, refl, sym, ap, ap₂, ◌∙◌, arith, length-append, codes, Option, Some, None, Ok}
 use Rattle.std.proofs.lemmas.Bool.{false≢true}
 use Rattle.std.proofs.lemmas.Bool.Decides.{Decides-eqb}
 use Rattle.std.proofs.lemmas.Fmt.{decimal_injective}
-use Rattle.std.proofs.lemmas.List.{take_at, drop_at, take-append-drop, append_cancel_left, append-nil}
+use Rattle.std.proofs.lemmas.List.{take_at, drop_at, take-append-drop, append_cancel_left}
 use Rattle.std.proofs.lemmas.Slice.Eq.{slice_eq-Decides}
 use Rattle.std.specs.Cmp.Lexicographic.{pointwise}
 use Rattle.std.specs.Fmt.{decimal}
 use Rattle.al_base.specs.declared.address.Address.{Address}
-use Rattle.al_digest.specs.declared.texts.TextFault.{TextFault}
-use Rattle.al_digest.specs.Base32.{base32}
 use Rattle.al_digest.specs.Texts.{AreBytes, address_text_of, check_of}
 use Rattle.al_digest.proofs.Letters.{length-base32}
 use Rattle.al_digest.proofs.Readings.{address_read, checked_are_bytes}
 use Rattle.al_http.specs.declared.asking.Request.{Request}
 use Rattle.al_http.specs.declared.asking.Request.TheVariants.{Post, Account}
-use Rattle.al_http.specs.Asks.{round_text, IsRound, Asks, ReadsRound, ReadsNumber, IsRequested}
+use Rattle.al_http.specs.Asks.{round_text, IsRound, Asks}
 
 -- what a test of a prefix says
 pub begins : (text prefix : List ℕ) (r : Bool) → r ≡ pointwise ◌==◌ (take (length prefix) text) prefix → r ≡ true → text ≡ prefix ++ drop (length prefix) text

@@ -5,3 +5,4 @@ pub mod HeadLemmas
 pub mod LawLemmas
 pub mod NumberLemmas
 pub mod AskLemmas
+pub mod RestLemmas

@@ -1,12 +1,11 @@
 -- Decimals without a leading zero.
-use Rattle.std.proofs.Common.{◌≡◌, ◌≤◌, ◌<◌, ◌+◌, ◌*◌, ◌-◌, ◌^◌, ◌⊎◌, inl, inr, ℕ, Bool, true, false, List, [], ◌∷◌, ◌++◌, length, min, take, get_or, refl, sym, ap, ◌∙◌, arith, subst}
-use Rattle.std.proofs.lemmas.Bool.{false≢true}
+use Rattle.std.proofs.Common.{◌≡◌, ◌≤◌, ◌<◌, ◌+◌, ◌*◌, ◌-◌, ◌^◌, ◌⊎◌, inl, inr, ℕ, true, false, List, length, min, take, get_or, sym, ap, ◌∙◌, arith, subst}
 use Rattle.std.proofs.lemmas.Bool.Decides.{nat_tests}
 use Rattle.std.proofs.lemmas.Fmt.{digits_decimal, digits_value-decimal, decimal-digits_value, decimal_nonempty, first_decimal, decimal_digit}
 use Rattle.std.proofs.lemmas.Int.Digits.{digits_value_more}
 use Rattle.std.proofs.lemmas.List.{take_all}
 use Rattle.std.proofs.lemmas.Str.Parse.{IsNumeralModel, numerals_by_value, tells_by_index, digits_value-take-le}
-use Rattle.std.specs.Char.{digit_value, is_ascii_digit}
+use Rattle.std.specs.Char.{is_ascii_digit}
 use Rattle.std.specs.Fmt.{decimal}
 use Rattle.std.specs.Int.{IsInRange}
 use Rattle.std.specs.Str.Parse.{digits_value}
@@ -33,6 +32,7 @@ digits_below text i below is k l = by_place (cases k i l)
   where
     cases : (k i : ℕ) → k < i + 1 → (k < i) ⊎ (k ≡ i)
     cases k i l = grind arith
+
     by_place : (k < i) ⊎ (k ≡ i) → IsInRange 48 57 (get_or text k 0)
     by_place (inl h) = below k h
     by_place (inr e) = subst (λ j. IsInRange 48 57 (get_or text j 0)) (sym e) (digit_in_range (get_or text i 0) is)
@@ -57,6 +57,7 @@ no_leading_zero text n zero more most is = by_number (cases n)
   where
     cases : (n : ℕ) → (n ≡ 0) ⊎ (0 < n)
     cases n = grind arith
+
     by_number : (n ≡ 0) ⊎ (0 < n) → ⊥
     by_number (inl e) = absurd (omega (arith, more, ap length (is ∙ ap decimal e ∙ decimal_digit 0 (omega arith))))
     by_number (inr some) = absurd (omega (arith, zero, ap (λ ds. get_or ds 0 0) is, first_decimal n some (fits n most)))

@@ -1,7 +1,6 @@
 -- What a head asks, by its method and target.
 use Rattle.std.specs.Prelude.{ℕ, ◌≡◌, ◌≤◌, ◌^◌, List, [], ◌++◌, Option, Some, None, codes}
 use Rattle.std.specs.Fmt.{decimal}
-use Rattle.al_base.specs.declared.address.Address.{Address}
 use Rattle.al_digest.specs.Texts.{AreBytes, address_text_of}
 use Rattle.al_http.specs.declared.asking.Request.{Request}
 use Rattle.al_http.specs.declared.asking.Request.TheVariants.{Post, Account}

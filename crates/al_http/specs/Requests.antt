@@ -3,8 +3,7 @@ use Rattle.std.specs.Prelude.{◌≡◌, ◌⊎◌, ◌<◌, ◌≤◌, ℕ, Lis
 use Rattle.std.specs.List.{flat_map}
 use Rattle.httparse.specs.Grammar.{RequestHead, IsRequestHead, ReadsRequest, print_request, HasNoRequest, NeverHasRequest, EndsInTarget}
 use Rattle.httparse.specs.Spans.{RequestExceeds}
-use Rattle.al_http.specs.declared.head.BodySize.{BodySize}
-use Rattle.al_http.specs.declared.head.BodySize.TheVariants.{Length, Coded, Bad}
+use Rattle.al_http.specs.declared.head.BodySize.TheVariants.{Length}
 use Rattle.al_http.specs.declared.asking.Request.{Request}
 use Rattle.al_http.specs.Asks.{Asks, FitsBody}
 use Rattle.al_http.specs.Fields.{fields_of, values, size_of}

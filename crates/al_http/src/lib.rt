@@ -8,6 +8,8 @@ mod fields;
 mod head;
 mod laws;
 mod members;
+#[cfg(test)]
+mod tests;
 mod texts;
 
 pub use answer::{Answer, ErrorName, More};

@@ -1,4 +1,4 @@
-use Rattle.std.proofs.Common.{rules, ◌≡◌, List, ℕ, codes, arith, refl, ◌∙◌}
+use Rattle.std.proofs.Common.{codes, arith, refl, ◌∙◌}
 use Rattle.al_http.specs.Asks.{round_text}
 use Rattle.al_http.proofs.AskLemmas.{no_account, rest_of, long_rest, account_is, no_text, no_query}
 use Rattle.al_http.proofs.asking.account.Goals as goal

@@ -1,4 +1,4 @@
-use Rattle.std.proofs.Common.{rules, ◌≡◌, ◌≤◌, ◌<◌, ◌+◌, ◌*◌, ◌-◌, ◌^◌, ℕ, true, false, length, min, get_or, take, arith}
+use Rattle.std.proofs.Common.{rules, ◌≡◌, ◌≤◌, ◌<◌, ◌+◌, ◌*◌, ◌-◌, ◌^◌, true, length, min, get_or, arith}
 use Rattle.std.specs.Char.{is_ascii_digit}
 use Rattle.al_http.proofs.NumberLemmas.{digits_below, number_more, number_read, not_empty, no_leading_zero, no_other_byte, no_larger}
 use Rattle.al_http.proofs.asking.number.Goals as goal
