@@ -6,3 +6,4 @@ pub mod LawLemmas
 pub mod NumberLemmas
 pub mod AskLemmas
 pub mod RestLemmas
+pub mod TextLemmas

@@ -5,6 +5,7 @@ ghost use Rattle.al_http.specs.Heads.{IsRead};
 use crate::fields::{closes, is_bare, size_of};
 use al_base::Bytes;
 use http::Method;
+use http::method::MethodError;
 use httparse::Status;
 use httparse::spans::{EMPTY_HEADER_SPAN, parse_request};
 use std::alloc::{AllocError, Global};
@@ -88,7 +89,8 @@ fn read_front(alloc: Global, front: &[u8]) -> Result<HeadRead, AllocError>
                     bare: is_bare(spans.version, front, fields),
                 }))
             }
-            Err(_) => Err(AllocError),
+            Err(MethodError::OutOfMemory) => Err(AllocError),
+            Err(MethodError::Invalid) => unreachable!(),
         },
         Ok(Status::Partial) => Ok(HeadRead::Partial),
         Err(_) => Ok(HeadRead::Bad),

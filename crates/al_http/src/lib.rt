@@ -3,13 +3,15 @@
 
 mod account;
 mod answer;
+#[cfg(test)]
+mod answer_tests;
 mod asking;
 mod fields;
 mod head;
+#[cfg(test)]
+mod head_tests;
 mod laws;
 mod members;
-#[cfg(test)]
-mod tests;
 mod texts;
 
 pub use answer::{Answer, ErrorName, More};
