@@ -1,4 +1,4 @@
-use Rattle.std.proofs.Common.{rules, ◌≤◌, ◌≡◌, arith, length, Ok, Err, ap, subst, sym, refl, ◌∙◌}
+use Rattle.std.proofs.Common.{rules, ◌≤◌, length, Ok, Err, ap, subst, sym, refl, ◌∙◌}
 use Rattle.httparse.specs.Outcome.{IfComplete}
 use Rattle.httparse.specs.declared.Error.{Error}
 use Rattle.httparse.specs.Grammar.{IsToken}
