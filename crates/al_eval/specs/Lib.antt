@@ -1,3 +1,4 @@
 pub mod Past
 pub mod Steps
+pub mod Next
 pub mod State

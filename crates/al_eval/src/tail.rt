@@ -6,7 +6,6 @@ ghost use Rattle.al_eval.specs.Past.{entry_of, has_id, lease_end, lease_until};
 use al_base::{Address, Hash};
 use al_block::Block;
 use al_txn::{Item, Txn, txid};
-use sqlite_items::Items;
 use std::alloc::{AllocError, Global};
 use std::marker::Model;
 
@@ -52,7 +51,7 @@ impl Entry {
 /// The transactions of a chain, as a list of what is kept of each.
 #[derive(Drop)]
 pub struct Tail {
-    entries: Items<Entry>,
+    entries: Vec<Entry>,
 }
 
 impl Model for Tail {
@@ -61,7 +60,7 @@ impl Model for Tail {
 
     ghost Value = { List Entry };
 
-    ghost view = { λ t. t.entries };
+    ghost view = { λ t. t.entries.items };
 }
 
 impl Tail {
@@ -70,7 +69,7 @@ impl Tail {
         ensures { result ≡ [] }
     {
         Tail {
-            entries: Items::new(alloc),
+            entries: Vec::new(alloc),
         }
     }
 
@@ -79,7 +78,8 @@ impl Tail {
         ensures ok { OnOk result (self.new ≡ self.old ++ entry ∷ []) }
         ensures err { OnErr result (self.new ≡ self.old) }
     {
-        self.entries.push(entry)
+        self.entries.push(entry)?;
+        Ok(())
     }
 
     /// Appends the entries of a block's transactions. A refused call leaves it as it was.
@@ -87,8 +87,8 @@ impl Tail {
         ensures ok { OnOk result (self.new ≡ self.old ++ map (λ i. entry_of i.txn) b.now.items) }
         ensures err { OnErr result (self.new ≡ self.old) }
     {
-        let more = entries_of(alloc, b.items.as_slice())?;
-        self.entries.append(more)
+        let mut more = entries_of(alloc, b.items.as_slice())?;
+        self.entries.append(&mut more)
     }
 
     /// Whether a transaction of this id is here that may stand in this round or later.
@@ -117,10 +117,10 @@ impl Tail {
 }
 
 // What is kept of each transaction.
-fn entries_of(alloc: Global, items: &[Item]) -> Result<Items<Entry>, AllocError>
-    ensures { IfOk result (λ es. es ≡ map (λ i. entry_of i.txn) items.now) }
+fn entries_of(alloc: Global, items: &[Item]) -> Result<Vec<Entry>, AllocError>
+    ensures { IfOk result (λ es. es.items ≡ map (λ i. entry_of i.txn) items.now) }
 {
-    let mut entries = Items::new(alloc);
+    let mut entries = Vec::new(alloc);
     for item in items {
         entries.push(Entry::of(alloc, &item.txn)?)?;
     }

@@ -118,11 +118,9 @@ fn do_body<V: RowView>(work: &mut Work<V>, txn: &Txn) -> Result<(), Stop<V::Faul
 {
     match &txn.body {
         Body::Pay(p) => work.pay(&txn.sender, p),
-        Body::KeyReg(_)
-        | Body::Config(_)
-        | Body::Move(_)
-        | Body::Freeze(_)
-        | Body::App(_) => Ok(()),
+        Body::KeyReg(_) | Body::Config(_) | Body::Move(_) | Body::Freeze(_) | Body::App(_) => Ok(
+            (),
+        ),
     }
 }
 

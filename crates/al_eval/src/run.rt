@@ -92,7 +92,13 @@ fn eval_over<V: RowView>(
     ensures round { IfOk answer.new (λ d. d.round ≡ block.now.header.round) }
 {
     let header = &block.header;
-    let mut work = Work::new(alloc, view, before.chain.special, header.level, header.round);
+    let mut work = Work::new(
+        alloc,
+        view,
+        before.chain.special,
+        header.level,
+        header.round,
+    );
     let run = block_rows(alloc, &mut work, before, past, block);
     let (changes, view) = work.end();
     *answer = match run {
