@@ -1,3 +1,5 @@
 pub mod Name
 pub mod Keys
 pub mod Causes
+pub mod Folders
+pub mod Plans

@@ -13,10 +13,12 @@ pub struct BoxName {
 
 impl BoxName {
     ghost use Rattle.al_base.specs.Name.{name_of};
+    ghost use Rattle.al_base.specs.declared.name.BoxName.{BoxName};
 
-    /// The name with these bytes.
+    /// The name with these bytes, where there are 1 to 64 of them.
     pub fn new(bytes: &[u8]) -> Option<BoxName>
         ensures value { IfSome result (λ n. name_of n ≡ bytes.now) }
+        ensures whole { (name : BoxName) → length name.bytes ≡ 64 → name_of name ≡ bytes.now → result ≡ Some name }
         ensures found { IsSome result ↔ ((1 ≤ length bytes.now) × (length bytes.now ≤ 64)) }
     {
         let len = bytes.len();
@@ -27,10 +29,12 @@ impl BoxName {
         Some(BoxName { bytes, len })
     }
 
+    /// The bytes of the name.
     pub fn as_slice(&self) -> &[u8]
         ensures value { result.now ≡ name_of self.now }
         ensures some { 1 ≤ length (name_of self.now) }
         ensures short { length (name_of self.now) ≤ 64 }
+        ensures array { length self.now.bytes ≡ 64 }
     {
         &self.bytes[..self.len]
     }

@@ -2,9 +2,14 @@
 #![tactic(auto)]
 
 mod block;
-mod hashes;
+mod block_record;
+mod decoding;
+mod hashing;
 mod header;
+mod header_record;
 
 pub use block::Block;
-pub use hashes::{header_hash, payset_hash};
+pub use decoding::{BlockFault, decode_block, encode_block};
+pub use hashing::{group_end, header_hash, payset_hash};
 pub use header::{Field, Header};
+pub use header_record::{header_entries, read_header};

@@ -10,3 +10,4 @@ pub mod Codes
 pub mod Written
 pub mod Canonical
 pub mod Encoded
+pub mod Rising

@@ -1,5 +1,5 @@
 -- The verdict of reading is what the relation says, and nothing else is.
-use Rattle.std.proofs.Common.{◌≡◌, ℕ, suc, ◌+◌, ◌-◌, ◌<◌, ◌≤◌, List, [], ◌∷◌, ◌++◌, length, get_or, take, drop, Result, Ok, Err, refl, sym, ap, subst, ◌∙◌, append_assoc, append-nil, arith, length-append, inl, inr, take-append-drop, take_at}
+use Rattle.std.proofs.Common.{◌≡◌, ℕ, suc, ◌+◌, ◌-◌, ◌<◌, ◌≤◌, List, [], ◌∷◌, ◌++◌, length, get_or, take, drop, Result, Ok, Err, IfOk, true, refl, sym, ap, subst, ◌∙◌, append_assoc, append-nil, arith, length-append, inl, inr, take-append-drop, take_at}
 use Rattle.std.proofs.lemmas.Bool.{cases_order}
 use Rattle.std.proofs.lemmas.List.{take-append-le}
 use Rattle.al_msgpack.specs.declared.val.Val.{Val}
@@ -10,6 +10,9 @@ use Rattle.al_msgpack.specs.Reading.{Read, value_at, verdict, verdict_of, Answer
 use Rattle.al_msgpack.specs.Grammar.{Begins, AreBytes}
 use Rattle.al_msgpack.specs.Spelling.{Spells}
 use Rattle.al_msgpack.specs.Places.{IsSpelling, IsTruncated, IsMalformed, Means, MeansUnless}
+use Rattle.al_msgpack.specs.Rising.{canonical}
+use Rattle.al_msgpack.proofs.Canonical.{spells_canonical}
+use Rattle.al_msgpack.proofs.Rising.{canonical_rises}
 use Rattle.al_msgpack.proofs.Exact.{Fit, Goes, Exact, pair, pair_is, done, fail}
 use Rattle.al_msgpack.proofs.Numbers.{Any}
 use Rattle.al_msgpack.proofs.Sizes.{limit}
@@ -130,6 +133,11 @@ right_from input (Ok x) v a m = subst (λ z. Means input z) a m
 
 pub only_from : (r v w : Result Val DecodeFault) → Answers r v → v ≡ w → Answers r w
 only_from r v w a e = subst (λ z. Answers r z) e a
+
+-- a value that is read has rising keys
+pub rises_from : (input : List ℕ) (r : Result Val DecodeFault) → MeansUnless input r → IfOk r (λ v. canonical v ≡ true)
+rises_from input (Ok v) m = canonical_rises 16 v (spells_canonical 16 v input m)
+rises_from input (Err e) m = tt
 
 pub bytes_fit : (bytes : List ℕ) → ((i : ℕ) → get_or bytes i 0 < 256) → AreBytes bytes
 bytes_fit [] h = tt

@@ -6,3 +6,4 @@ pub mod Places
 pub mod Spelled
 pub mod Canonical
 pub mod Laws
+pub mod Rising

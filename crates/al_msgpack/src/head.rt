@@ -1,9 +1,9 @@
-//! What a first byte says.
+//! The first byte of a spelling: the family of the value, and its size.
 ghost use Rattle.std.specs.Prelude.{◌≡◌};
 ghost use Rattle.std.specs.Prelude.{◌≤◌, ◌<◌};
 ghost use Rattle.al_msgpack.specs.Heads.{head_at, is_open, count};
 
-/// How many bytes a number has.
+/// How many bytes a number or a length takes after the head.
 #[derive(Clone, Copy, Debug, PartialEq, Eq)]
 pub enum Width {
     One,
@@ -13,6 +13,7 @@ pub enum Width {
 }
 
 impl Width {
+    /// That many bytes, 1 to 8.
     pub fn bytes(self) -> u8
         ensures value { result ≡ count self }
         ensures bound { result ≤ 8 }
@@ -29,7 +30,9 @@ impl Width {
 /// A number or a length: it stands in the head, or in so many bytes after it and is not below the least.
 #[derive(Clone, Copy, Debug, PartialEq, Eq)]
 pub enum Size {
+    /// In the head itself.
     Fixed(u64),
+    /// In so many bytes, and the least that has no shorter form.
     Wide(Width, u64),
 }
 

@@ -29,6 +29,7 @@ fn digits(bytes: &[u8], width: u8, least: u64) -> Result<(u64, &[u8]), Fault>
     Ok((n, rest))
 }
 
+/// The number or the length that a head announces.
 #[tactic(auto, unfolding(crate::specs::Reading::size_at))]
 pub(crate) fn size_of(size: Size, bytes: &[u8]) -> Result<(u64, &[u8]), Fault>
     ensures { Same (λ x. (x.0, x.1.now)) result (size_at size bytes.now) }
@@ -39,6 +40,7 @@ pub(crate) fn size_of(size: Size, bytes: &[u8]) -> Result<(u64, &[u8]), Fault>
     }
 }
 
+/// `len` bytes, and those after them.
 #[tactic(auto, unfolding(crate::specs::Reading::raw_at))]
 fn raw(bytes: &[u8], len: u64) -> Result<(&[u8], &[u8]), Fault>
     ensures { Same (λ x. (x.0.now, x.1.now)) result (raw_at len bytes.now) }

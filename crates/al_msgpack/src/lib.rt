@@ -1,6 +1,13 @@
-//! Canonical MessagePack: one spelling for each value, and each fault at its place.
+//! Canonical MessagePack: the wire format of transactions, blocks, rows and files.
+//!
+//! A part of MessagePack (msgpack.org): unsigned numbers, false and true, strings of any bytes,
+//! byte strings, lists, and maps whose keys are strings. Each value has exactly one spelling, since
+//! numbers and lengths take their shortest form and a map's keys rise strictly; no spelling is a
+//! proper prefix of another. There is no nil, no negative number, no float and no extension.
+//! Containers nest at most 16 deep.
 #![tactic(auto)]
 
+mod copy;
 mod fault;
 mod head;
 mod key;
@@ -13,7 +20,7 @@ pub use fault::DecodeFault;
 pub use laws::format_laws;
 pub use reading::decode;
 pub use val::{Entries, Entry, Val, Vals};
-pub use writing::encode;
+pub use writing::{encode, write};
 
 #[cfg(test)]
 mod tests;

@@ -1,7 +1,8 @@
 //! The decoder.
-ghost use Rattle.std.specs.Prelude.{◌≡◌, None, Result};
+ghost use Rattle.std.specs.Prelude.{◌≡◌, ◌<◌, ◌^◌, None, Result, IfOk, IsTrue, length};
 ghost use Rattle.al_msgpack.specs.Reading.{Gives, Answers, value_at, all_of, entries_of, verdict};
 ghost use Rattle.al_msgpack.specs.Places.{Means, MeansUnless};
+ghost use Rattle.al_msgpack.specs.Rising.{canonical};
 ghost use Rattle.al_msgpack.specs.declared.val.Val.{Val};
 ghost use Rattle.al_msgpack.specs.declared.fault.DecodeFault.{DecodeFault};
 
@@ -15,9 +16,6 @@ use std::alloc::Global;
 
 /// How deep containers nest.
 pub(crate) const DEPTH: u8 = 16;
-
-/// Below this length each key in an input has room for all keys that may follow.
-const LONGEST: usize = 0xffff_fffa;
 
 /// A value, and the bytes after it. Containers nest at most `depth` deep.
 #[tactic(auto, unfolding(crate::specs::Reading::value_at))]
@@ -129,15 +127,24 @@ fn judge(alloc: Global, input: &[u8]) -> Result<Val, DecodeFault>
     }
 }
 
-/// The value that the input spells, or why it spells none. An input of 4 GiB is too long for memory.
+/// The value whose spelling the input is, or the first fault and its place. All or nothing: a
+/// value followed by more bytes is refused.
+///
+/// - `Truncated` exactly where the input is a proper prefix of a spelling; its place is the
+///   input's length.
+/// - `Malformed` at the least place such that no spelling begins with the bytes up to and with
+///   it, where no whole spelling stands in front.
+/// - `Trailing` exactly where a spelling stands in front and more bytes follow; its place is that
+///   spelling's length.
+/// - `Memory`: the value does not fit into memory.
 pub fn decode(alloc: Global, input: &[u8]) -> Result<Val, DecodeFault>
+    requires { length input.now < 2 ^ 31 }
     // Each answer is right, by the relation alone.
     ensures right { MeansUnless input.now result }
     // What is right is answered, unless memory runs out.
     ensures only { (r : Result Val DecodeFault) → Means input.now r → Answers result r }
+    // The keys of each map rise strictly, at every level.
+    ensures rising { IfOk result (λ v. IsTrue (canonical v)) }
 {
-    if input.len() > LONGEST {
-        return Err(DecodeFault::Memory);
-    }
     judge(alloc, input)
 }

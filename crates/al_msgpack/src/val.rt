@@ -1,26 +1,28 @@
-//! A value of the wire format.
+//! Values of the wire format.
 use al_base::Bytes;
 use sqlite_items::Items;
 
-/// A value.
+/// A value of the wire format. It is canonical where each map's keys rise strictly, compared byte
+/// by byte with a proper prefix first, containers nest at most 16 deep, and each length is below
+/// 2^32.
 #[cycle(val)]
 #[derive(Debug, Drop)]
 pub enum Val {
-    /// A number.
+    /// An unsigned number.
     Num(u64),
     /// True or false.
     Flag(bool),
-    /// A string, of any bytes.
+    /// A string. It may hold any bytes, also such as are no UTF-8.
     Str(Bytes),
-    /// Bytes.
+    /// A byte string.
     Bin(Bytes),
-    /// A list.
+    /// A list of values.
     List(Items<Val>),
-    /// A map, whose keys are strings.
+    /// A map whose keys are strings.
     Map(Items<Entry>),
 }
 
-/// An entry of a map.
+/// An entry of a map: a key and its value.
 #[cycle(val)]
 #[derive(Debug, Drop)]
 pub struct Entry {

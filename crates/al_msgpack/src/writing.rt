@@ -43,6 +43,7 @@ fn put_1(head: u8, n: u8, out: &mut Vec<u8>) -> Result<(), AllocError>
     Ok(out.push(n)?)
 }
 
+/// A number in its shortest form.
 fn put_num(n: u64, out: &mut Vec<u8>) -> Result<(), AllocError>
     ensures { OnOk result (out.new.items ≡ out.old.items ++ num_spelled n) }
 {
@@ -61,6 +62,7 @@ fn put_num(n: u64, out: &mut Vec<u8>) -> Result<(), AllocError>
     put_8(0xcf, n, out)
 }
 
+/// The head of a string of `n` bytes.
 fn put_string_head(n: usize, out: &mut Vec<u8>) -> Result<(), AllocError>
     ensures { OnOk result (out.new.items ≡ out.old.items ++ string_head n) }
 {
@@ -76,6 +78,7 @@ fn put_string_head(n: usize, out: &mut Vec<u8>) -> Result<(), AllocError>
     put_4(0xdb, (n % 0x1_0000_0000) as u32, out)
 }
 
+/// The head of a byte string of `n` bytes.
 fn put_bytes_head(n: usize, out: &mut Vec<u8>) -> Result<(), AllocError>
     ensures { OnOk result (out.new.items ≡ out.old.items ++ bytes_head n) }
 {
@@ -88,6 +91,7 @@ fn put_bytes_head(n: usize, out: &mut Vec<u8>) -> Result<(), AllocError>
     put_4(0xc6, (n % 0x1_0000_0000) as u32, out)
 }
 
+/// The head of a list of `n` members.
 fn put_list_head(n: usize, out: &mut Vec<u8>) -> Result<(), AllocError>
     ensures { OnOk result (out.new.items ≡ out.old.items ++ list_head n) }
 {
@@ -100,6 +104,7 @@ fn put_list_head(n: usize, out: &mut Vec<u8>) -> Result<(), AllocError>
     put_4(0xdd, (n % 0x1_0000_0000) as u32, out)
 }
 
+/// The head of a map of `n` entries.
 fn put_map_head(n: usize, out: &mut Vec<u8>) -> Result<(), AllocError>
     ensures { OnOk result (out.new.items ≡ out.old.items ++ map_head n) }
 {
@@ -112,6 +117,7 @@ fn put_map_head(n: usize, out: &mut Vec<u8>) -> Result<(), AllocError>
     put_4(0xdf, (n % 0x1_0000_0000) as u32, out)
 }
 
+/// A string, or a key.
 fn put_string(bytes: &[u8], out: &mut Vec<u8>) -> Result<(), AllocError>
     ensures { OnOk result (out.new.items ≡ out.old.items ++ (string_head (length bytes.now) ++ bytes.now)) }
 {
@@ -119,16 +125,19 @@ fn put_string(bytes: &[u8], out: &mut Vec<u8>) -> Result<(), AllocError>
     out.extend_from_slice(bytes)
 }
 
-/// Appends the one spelling of a canonical value.
+/// Appends the one spelling of a canonical value: the bytes that `decode` reads back as this value.
 pub fn encode(v: &Val, out: &mut Vec<u8>) -> Result<(), AllocError>
     requires { IsCanonical 16 v.now }
-    ensures { OnOk result ((b : List ℕ) × IsSpelling v.now b × (out.new.items ≡ out.old.items ++ b)) }
+    ensures spelling { OnOk result ((b : List ℕ) × IsSpelling v.now b × (out.new.items ≡ out.old.items ++ b)) }
+    ensures bytes { OnOk result (out.new.items ≡ out.old.items ++ spelled v.now) }
 {
-    put(v, out)
+    write(v, out)
 }
 
-#[cycle(encode)]
-fn put(v: &Val, out: &mut Vec<u8>) -> Result<(), AllocError>
+/// Appends bytes for any value, canonical or not: its one spelling where it is canonical. What is
+/// only hashed and never decoded needs no more.
+#[cycle(write)]
+pub fn write(v: &Val, out: &mut Vec<u8>) -> Result<(), AllocError>
     ensures { OnOk result (out.new.items ≡ out.old.items ++ spelled v.now) }
 {
     match v {
@@ -142,32 +151,34 @@ fn put(v: &Val, out: &mut Vec<u8>) -> Result<(), AllocError>
         }
         Val::List(items) => {
             put_list_head(items.len(), out)?;
-            encode_all(items.as_slice(), out)
+            write_all(items.as_slice(), out)
         }
         Val::Map(entries) => {
             put_map_head(entries.len(), out)?;
-            encode_entries(entries.as_slice(), out)
+            write_entries(entries.as_slice(), out)
         }
     }
 }
 
-#[cycle(encode)]
-fn encode_all(items: &[Val], out: &mut Vec<u8>) -> Result<(), AllocError>
+/// Values one behind the other.
+#[cycle(write)]
+fn write_all(items: &[Val], out: &mut Vec<u8>) -> Result<(), AllocError>
     ensures { OnOk result (out.new.items ≡ out.old.items ++ all_spelled items.now) }
 {
     for v in items {
-        put(v, out)?;
+        write(v, out)?;
     }
     Ok(())
 }
 
-#[cycle(encode)]
-fn encode_entries(entries: &[Entry], out: &mut Vec<u8>) -> Result<(), AllocError>
+/// Keys and values one behind the other.
+#[cycle(write)]
+fn write_entries(entries: &[Entry], out: &mut Vec<u8>) -> Result<(), AllocError>
     ensures { OnOk result (out.new.items ≡ out.old.items ++ entries_spelled entries.now) }
 {
     for e in entries {
         put_string(e.key.as_slice(), out)?;
-        put(&e.val, out)?;
+        write(&e.val, out)?;
     }
     Ok(())
 }

@@ -7,8 +7,9 @@ use Rattle.al_record.specs.declared.fault.Fault.{Fault}
 use Rattle.al_record.specs.declared.fault.ReadError.{ReadError}
 use Rattle.std.specs.Result.{IsErrAnd}
 use Rattle.al_record.specs.declared.fault.Fault.TheVariants.{Field}
-use Rattle.al_record.specs.Columns.{fits, value_at, Head, heads, FieldOf, Format, rule, table, AllShown, fitting, field_fault, first_of, range_fault, first_fault, rules_of, with_entry, entries, IsRecord, Fails, Reads, rises, keys}
-use Rattle.al_record.specs.Canonical.{are_canonical}
+use Rattle.al_record.specs.Columns.{fits, value_at, Head, heads, FieldOf, Format, rule, table, AllShown, fitting, field_fault, first_of, range_fault, first_fault, rules_of, with_entry, entries, IsRecord, Fails, Reads}
+use Rattle.al_msgpack.specs.Rising.{rises, keys}
+use Rattle.al_msgpack.specs.Rising.{are_canonical}
 use Rattle.al_record.proofs.Canonical.{keys_rise}
 use Rattle.al_record.proofs.Fields.{Fitting, put_again}
 use Rattle.al_record.proofs.Order.{IsLess, IsBelow, Rising, below_more, rising, apart, apart_back, same_name}

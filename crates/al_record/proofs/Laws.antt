@@ -8,7 +8,8 @@ use Rattle.al_msgpack.specs.declared.val.Val.TheViews as views
 use Rattle.al_msgpack.specs.declared.val.Entry.{Entry}
 use Rattle.al_record.specs.declared.fault.Fault.{Fault}
 use Rattle.al_record.specs.declared.shape.Shape.TheVariants as shapes
-use Rattle.al_record.specs.Columns.{FieldOf, number, up_to, flag, text, bytes, array, addresses, inner, inners, Rule, rises, in_range, unless, unless_range, number_of, flag_of, flag_put, text_of, bytes_of, list_of, list_put, map_of, rule, rules_of, heads, put, Shows, AllShown, is_zero_array, is_empty, is_address, address_in, are_addresses, number_in, array_in, array_of, bytes_in, text_in, flag_in, list_in, map_in, value_at, with_entry, entries, range_fault, table, IsRecord, keys}
+use Rattle.al_record.specs.Columns.{FieldOf, number, up_to, flag, text, bytes, array, addresses, inner, inners, Rule, in_range, unless, unless_range, number_of, flag_of, flag_put, text_of, bytes_of, list_of, list_put, map_of, rule, rules_of, heads, put, Shows, AllShown, is_zero_array, is_empty, is_address, address_in, are_addresses, number_in, array_in, array_of, bytes_in, text_in, flag_in, list_in, map_in, value_at, with_entry, entries, range_fault, table, IsRecord}
+use Rattle.al_msgpack.specs.Rising.{rises, keys}
 use Rattle.al_record.proofs.Order.{IsLess, IsBelow, Rising, rising, apart_back, same_itself}
 use Rattle.al_record.proofs.Engine.{names, first_none, absent}
 

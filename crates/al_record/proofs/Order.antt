@@ -8,7 +8,7 @@ use Rattle.std.specs.Ordering.{is_lt, nat_cmp}
 use Rattle.std.specs.declared.cmp.Ordering.{Ordering}
 use Rattle.std.specs.declared.cmp.Ordering.TheVariants.{Less, Equal, Greater}
 use Rattle.std.specs.Cmp.Lexicographic.{slice_cmp}
-use Rattle.al_record.specs.Columns.{rises}
+use Rattle.al_msgpack.specs.Rising.{rises}
 
 abbrev pub IsLess : List ℕ → List ℕ → Type 0
 IsLess a b = slice_cmp nat_cmp a b ≡ Less

@@ -1,11 +1,11 @@
 -- A record determines its value.
-use Rattle.std.proofs.Common.{◌≡◌, ℕ, List, [], ◌∷◌, map, Result, Ok, Err, refl, sym, ap, ap₂, ◌∙◌}
+use Rattle.std.proofs.Common.{◌≡◌, ℕ, List, [], ◌∷◌, map, Result, Ok, Err, refl, ap, ap₂}
 use Rattle.al_msgpack.specs.declared.val.Entry.{Entry}
 use Rattle.al_base.specs.declared.address.Address.{Address}
 use Rattle.al_record.specs.declared.fault.ReadError.{ReadError}
 use Rattle.al_record.specs.declared.fault.ReadError.TheVariants as errors
-use Rattle.al_record.specs.Columns.{Format, IsRecord, Reads, AllShown}
-use Rattle.al_record.specs.Again.{Answers}
+use Rattle.al_record.specs.Columns.{Format, IsRecord, Reads}
+use Rattle.al_record.specs.Laws.{Answers}
 
 abbrev pub Determined : {X : Type 0} → Format X → Type 0
 Determined {X} format = (x y : X) (es : List Entry) → IsRecord format x es → IsRecord format y es → x ≡ y

@@ -5,9 +5,10 @@ use Rattle.al_msgpack.specs.declared.val.Val.TheVariants as values
 use Rattle.al_msgpack.specs.declared.val.Val.TheViews as views
 use Rattle.al_msgpack.specs.declared.val.Entry.{Entry}
 use Rattle.al_record.specs.declared.shape.Shape.TheVariants as shapes
-use Rattle.al_record.specs.Columns.{FieldOf, number, up_to, flag, text, bytes, array, addresses, inner, inners, Head, rule, rules_of, heads, put, unless, flag_put, is_empty, is_zero_array, with_entry, entries, field_fault, range_fault, table, IsRecord, rises}
+use Rattle.al_record.specs.Columns.{FieldOf, number, up_to, flag, text, bytes, array, addresses, inner, inners, Head, rule, rules_of, heads, put, unless, flag_put, is_empty, is_zero_array, with_entry, entries, field_fault, range_fault, table, IsRecord}
+use Rattle.al_msgpack.specs.Rising.{rises}
 use Rattle.std.specs.Prelude.{IfOk}
-use Rattle.al_record.specs.Again.{InRange}
+use Rattle.al_record.specs.Laws.{InRange}
 use Rattle.al_record.proofs.Order.{Rising, rising, same_itself}
 use Rattle.al_record.proofs.Fields.{Fitting}
 use Rattle.al_record.proofs.Engine.{names, rule_skip}

@@ -2,8 +2,6 @@
 use Rattle.std.specs.Prelude.{◌≡◌, ◌==◌, ◌&&◌, ◌||◌, is_none, ℕ, Bool, true, false, not, nat_le, List, [], ◌∷◌, length, map, replicate, Option, Some, None, Result, Ok, Err, if◌then◌else◌}
 use Rattle.std.specs.Str.{bytes_eq}
 use Rattle.std.specs.List.{list_all, list_any}
-use Rattle.std.specs.Ordering.{is_lt, nat_cmp}
-use Rattle.std.specs.Cmp.Lexicographic.{slice_cmp}
 use Rattle.al_msgpack.specs.declared.val.Val.{Val, out-Val}
 use Rattle.al_msgpack.specs.declared.val.Val.TheVariants as values
 use Rattle.al_msgpack.specs.declared.val.Val.TheOpen.{Val-F}
@@ -288,15 +286,6 @@ Reads format es (Err e) = Fails e (format.fault es)
 abbrev pub Passes : Option Fault → Result (Unit {0}) ReadError → Type 0
 Passes f (Ok u) = f ≡ None
 Passes f (Err e) = Fails e f
-
--- names rise strictly, byte by byte
-abbrev pub rises : List (List ℕ) → Bool
-rises [] = true
-rises (a ∷ []) = true
-rises (a ∷ b ∷ rest) = is_lt (slice_cmp nat_cmp a b) && rises (b ∷ rest)
-
-abbrev pub keys : List Entry → List (List ℕ)
-keys es = map (λ e. e.key) es
 
 -- each field of x is what is read under its name
 abbrev pub Shows : {X : Type 0} → FieldOf X → X → Option Val → Type 0

@@ -2,4 +2,4 @@ pub mod Columns
 pub mod Code
 pub mod Canonical
 pub mod Kinds
-pub mod Again
+pub mod Laws

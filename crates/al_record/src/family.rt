@@ -5,6 +5,7 @@ ghost use Rattle.al_record.specs.Columns.{number_of, flag_of, text_of, bytes_of,
 
 use al_msgpack::{Entry, Val};
 
+/// The number, or 0.
 pub fn number_of(v: Option<&Val>) -> u64
     ensures { result ≡ number_of (option_copied v.entry) }
 {
@@ -14,6 +15,7 @@ pub fn number_of(v: Option<&Val>) -> u64
     }
 }
 
+/// The flag, or false.
 pub fn flag_of(v: Option<&Val>) -> bool
     ensures { result ≡ flag_of (option_copied v.entry) }
 {
@@ -23,6 +25,7 @@ pub fn flag_of(v: Option<&Val>) -> bool
     }
 }
 
+/// The string's bytes, or none.
 pub fn text_of<'a>(v: Option<&'a Val>) -> &'a [u8]
     ensures { result.now ≡ text_of (option_copied v.entry) }
 {
@@ -32,6 +35,7 @@ pub fn text_of<'a>(v: Option<&'a Val>) -> &'a [u8]
     }
 }
 
+/// The byte string's bytes, or none.
 pub fn bytes_of<'a>(v: Option<&'a Val>) -> &'a [u8]
     ensures { result.now ≡ bytes_of (option_copied v.entry) }
 {
@@ -41,6 +45,7 @@ pub fn bytes_of<'a>(v: Option<&'a Val>) -> &'a [u8]
     }
 }
 
+/// The list's members, or none.
 pub fn list_of<'a>(v: Option<&'a Val>) -> &'a [Val]
     ensures { result.now ≡ list_of (option_copied v.entry) }
 {
@@ -50,6 +55,7 @@ pub fn list_of<'a>(v: Option<&'a Val>) -> &'a [Val]
     }
 }
 
+/// The map's entries, or none.
 pub fn map_of<'a>(v: Option<&'a Val>) -> &'a [Entry]
     ensures { result.now ≡ map_of (option_copied v.entry) }
 {

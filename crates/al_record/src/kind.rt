@@ -1,4 +1,5 @@
-//! The field that names a record's kind. It is checked before all others.
+//! The field that names a record's kind. It is checked before all others: of another family or
+//! with its zero value it is a Field fault, and absent it is a Range fault.
 ghost use Rattle.std.specs.Prelude.{◌≡◌, IfErr, Some};
 ghost use Rattle.al_record.specs.Columns.{Fails};
 ghost use Rattle.al_record.specs.Kinds.{Gives, text_kind, number_kind};
@@ -9,6 +10,7 @@ use al_base::Bytes;
 use al_msgpack::{Entry, Val};
 use std::alloc::Global;
 
+/// The kind, where a string names it.
 pub fn text_kind<'a>(alloc: Global, entries: &'a [Entry], name: &str) -> Result<&'a [u8], ReadError>
     ensures { Gives (λ k. k.now) result (text_kind name.now entries.now) }
 {
@@ -24,6 +26,7 @@ pub fn text_kind<'a>(alloc: Global, entries: &'a [Entry], name: &str) -> Result<
     }
 }
 
+/// The kind, where a number names it.
 pub fn number_kind(alloc: Global, entries: &[Entry], name: &str) -> Result<u64, ReadError>
     ensures { Gives (λ k. k) result (number_kind name.now entries.now) }
 {
@@ -39,7 +42,7 @@ pub fn number_kind(alloc: Global, entries: &[Entry], name: &str) -> Result<u64, 
     }
 }
 
-/// The fault of a field, or want of memory for its name.
+/// The Field fault of a name, or want of memory for it.
 pub fn field(alloc: Global, name: &str) -> ReadError
     ensures { Fails result (Some (Fault.Field name.now)) }
 {
@@ -49,6 +52,7 @@ pub fn field(alloc: Global, name: &str) -> ReadError
     }
 }
 
+/// The Range fault of a name, or want of memory for it.
 pub fn range(alloc: Global, name: &str) -> ReadError
     ensures { Fails result (Some (Fault.Range name.now)) }
 {

@@ -10,7 +10,8 @@ use al_base::Bytes;
 use al_msgpack::Entry;
 use std::alloc::Global;
 
-/// The first field that is unknown, of the wrong family, or present with its zero value.
+/// The first pass: the first entry that is unknown, of the wrong family, or present with its zero
+/// value is a Field fault.
 pub fn check_fields(alloc: Global, entries: &[Entry], columns: &[Column]) -> Result<(), ReadError>
     ensures { Passes (field_fault (heads (table_of columns.now)) entries.now) result }
 {
@@ -23,7 +24,8 @@ pub fn check_fields(alloc: Global, entries: &[Entry], columns: &[Column]) -> Res
     Ok(())
 }
 
-fn fitting(e: &Entry, columns: &[Column]) -> bool
+/// A field of the table, of its family and not zero.
+pub fn fitting(e: &Entry, columns: &[Column]) -> bool
     ensures { result ≡ fitting (heads (table_of columns.now)) e.now }
 {
     for c in columns {
@@ -34,7 +36,7 @@ fn fitting(e: &Entry, columns: &[Column]) -> bool
     false
 }
 
-/// The first field outside its range.
+/// The second pass: the first field of the table that is outside its range is a Range fault.
 pub fn check_ranges(alloc: Global, entries: &[Entry], columns: &[Column]) -> Result<(), ReadError>
     ensures { Passes (range_fault (table_of columns.now) entries.now) result }
 {
@@ -47,7 +49,8 @@ pub fn check_ranges(alloc: Global, entries: &[Entry], columns: &[Column]) -> Res
     Ok(())
 }
 
-/// Both passes.
+/// Both passes. A table with inner records takes [`check_fields`] alone, and then, in the order of
+/// the fields, [`check_ranges`] on the runs between them.
 pub fn check(alloc: Global, entries: &[Entry], columns: &[Column]) -> Result<(), ReadError>
     ensures { Passes (first_fault (table_of columns.now) entries.now) result }
 {

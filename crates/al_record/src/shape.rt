@@ -9,17 +9,26 @@ use crate::family::{bytes_of, list_of, number_of};
 use al_base::Bytes;
 use al_msgpack::Val;
 
-/// A family of values with its range.
+/// The family of a field's values, with its range.
 #[derive(Clone, Copy, Debug, PartialEq, Eq)]
 pub enum Shape {
+    /// Any number.
     Number,
+    /// A number of at most so much.
     UpTo { most: u64 },
+    /// True; false is left out.
     Flag,
+    /// A string of any bytes.
     Text,
+    /// A byte string whose length lies in these bounds.
     Bytes { least: usize, most: usize },
+    /// A byte string of exactly this length, zero where all its bytes are.
     Array { len: usize },
+    /// A list of at most so many addresses of 32 bytes, no two alike.
     Addresses { most: usize },
+    /// A list of records, whose members have checks of their own.
     List,
+    /// An inner record, with checks of its own.
     Map,
 }
 
@@ -27,13 +36,16 @@ pub enum Shape {
 #[derive(Clone, Copy, Debug)]
 pub struct Column(pub &'static str, pub Shape);
 
+/// A number of at most 2^62, as rounds and ids are.
 pub const COUNT: Shape = Shape::UpTo { most: 1 << 62 };
 
+/// Bytes of any length.
 pub const ANY_BYTES: Shape = Shape::Bytes {
     least: 0,
     most: usize::MAX,
 };
 
+/// 32 bytes: a hash, a key or an address.
 pub const HASH: Shape = Shape::Array { len: 32 };
 
 impl Shape {
@@ -72,6 +84,7 @@ impl Shape {
     }
 }
 
+/// `len` bytes, all of them zero.
 fn is_zero_array(b: &Bytes, len: usize) -> bool
     ensures { result ≡ is_zero_array len b.now }
 {
@@ -81,25 +94,28 @@ fn is_zero_array(b: &Bytes, len: usize) -> bool
     is_zero(b.as_slice())
 }
 
+/// Zeros only.
 pub fn is_zero(bytes: &[u8]) -> bool
     ensures { result ≡ list_all (λ b. b == 0) bytes.now }
 {
     bytes.iter().all(|b| *b == 0)
 }
 
-/// So many addresses, no two alike.
+/// At most so many addresses, no two alike.
 fn are_addresses(vs: &[Val], most: usize) -> bool
     ensures { result ≡ are_addresses most vs.now }
 {
     vs.len() <= most && all_addresses(vs) && no_doubles(vs)
 }
 
+/// Addresses only.
 fn all_addresses(vs: &[Val]) -> bool
     ensures { result ≡ list_all is_address vs.now }
 {
     vs.iter().all(|v| is_address(v))
 }
 
+/// A byte string of 32 bytes.
 fn is_address(v: &Val) -> bool
     ensures { result ≡ is_address v.now }
 {
@@ -109,7 +125,7 @@ fn is_address(v: &Val) -> bool
     }
 }
 
-/// The 32 bytes of an address.
+/// The 32 bytes of an address, or zeros where the value is none.
 pub fn address(v: &Val) -> [u8; 32]
     ensures { result ≡ address_in v.now }
 {
@@ -122,6 +138,7 @@ pub fn address(v: &Val) -> [u8; 32]
     out
 }
 
+/// No address twice.
 fn no_doubles(vs: &[Val]) -> bool
     ensures { result ≡ no_doubles (map address_in vs.now) }
 {
@@ -135,6 +152,7 @@ fn no_doubles(vs: &[Val]) -> bool
     true
 }
 
+/// The address stands among these.
 fn has_address(vs: &[Val], a: &[u8; 32]) -> bool
     ensures { result ≡ list_any (λ b. bytes_eq a.now b) (map address_in vs.now) }
 {

@@ -8,15 +8,20 @@ use al_base::{Address, Bytes};
 use al_msgpack::{Entries, Entry, Val, Vals};
 use std::alloc::{AllocError, Global};
 
-/// What is written under a field's name.
+/// What is written under a field's name. Nothing is, where it is zero.
 #[derive(Clone, Copy)]
 pub enum Content<'a> {
     Number(u64),
     Flag(bool),
+    /// A string that the format fixes, as the word of a kind.
     Word(&'static str),
+    /// A string.
     Text(&'a Bytes),
+    /// A byte string.
     Bytes(&'a Bytes),
+    /// 32 bytes.
     Array(&'a [u8; 32]),
+    /// 64 bytes.
     Wide(&'a [u8; 64]),
     Addresses(&'a [Address]),
 }
@@ -61,6 +66,7 @@ impl<'a> Content<'a> {
     }
 }
 
+/// A byte string, unless all its bytes are zero.
 fn array_val<const N: usize>(alloc: Global, b: &[u8; N]) -> Result<Option<Val>, AllocError>
     ensures { IfOk result (λ o. o ≡ array_put N b.now) }
 {
@@ -70,6 +76,7 @@ fn array_val<const N: usize>(alloc: Global, b: &[u8; N]) -> Result<Option<Val>, 
     Ok(Some(Val::Bin(Bytes::of(alloc, b.as_slice())?)))
 }
 
+/// The addresses as byte strings.
 fn address_vals(alloc: Global, list: &[Address]) -> Result<Vals, AllocError>
     ensures { IfOk result (λ vs. vs ≡ map (λ a. Val.Bin a) (map (λ a. a.0) list.now)) }
 {
@@ -80,7 +87,7 @@ fn address_vals(alloc: Global, list: &[Address]) -> Result<Vals, AllocError>
     Ok(out)
 }
 
-/// Appends a field.
+/// Appends a field, whatever its value.
 pub fn put(alloc: Global, out: &mut Entries, name: &str, val: Val) -> Result<(), AllocError>
     ensures { OnOk result (out.new ≡ out.old ++ with_entry name.now (Some val) []) }
 {
@@ -89,7 +96,7 @@ pub fn put(alloc: Global, out: &mut Entries, name: &str, val: Val) -> Result<(),
     Ok(())
 }
 
-/// Appends a field, unless it is zero.
+/// Appends a field, unless its content is zero.
 fn put_content(
     alloc: Global,
     out: &mut Entries,
@@ -104,7 +111,7 @@ fn put_content(
     Ok(())
 }
 
-/// The record with these contents in the order of its columns.
+/// The record with these contents, one for each column of the table.
 pub fn listed(
     alloc: Global,
     columns: &[Column],

@@ -1,0 +1,66 @@
+//! Blocks from bytes, and bytes of blocks.
+ghost use Rattle.std.specs.Prelude.{◌≡◌, ◌++◌, ◌<◌, ◌^◌, length, IsTrue, OnOk};
+ghost use Rattle.al_msgpack.specs.declared.val.Val.TheVariants as values;
+ghost use Rattle.al_msgpack.specs.Rising.{canonical};
+ghost use Rattle.al_msgpack.specs.Spelled.{spelled};
+ghost use Rattle.al_block.specs.Block.{block, BlockMeansUnless, ReadsSized};
+
+use crate::Block;
+use al_base::Bytes;
+use al_msgpack::{DecodeFault, Val, decode, write};
+use al_record::{Fault, ReadError, Record, range, read_member};
+use std::alloc::{AllocError, Global};
+
+/// The most bytes of a block's spelling.
+const MOST_BYTES: usize = 5_242_880;
+
+/// Why an input is no block.
+#[derive(Debug, Drop)]
+pub enum BlockFault {
+    /// It is the spelling of no value.
+    Decode(DecodeFault),
+    /// A field that is unknown, of the wrong family, or present with its zero value.
+    Field { name: Bytes },
+    /// A field outside its range.
+    Range { name: Bytes },
+    /// Want of memory.
+    Memory,
+}
+
+/// The block whose record the input spells, or the first fault: of the spelling, then of the
+/// record, then `Range` of `t` where the spelling has more than 5,242,880 bytes.
+pub fn decode_block(alloc: Global, input: &[u8]) -> Result<Block, BlockFault>
+    requires { length input.now < 2 ^ 31 }
+    ensures { BlockMeansUnless input.now result }
+{
+    let v = match decode(alloc, input) {
+        Ok(v) => v,
+        Err(DecodeFault::Memory) => return Err(BlockFault::Memory),
+        Err(fault) => return Err(BlockFault::Decode(fault)),
+    };
+    match read_sized(alloc, &v, input.len()) {
+        Ok(block) => Ok(block),
+        Err(ReadError::Fault(Fault::Field { name })) => Err(BlockFault::Field { name }),
+        Err(ReadError::Fault(Fault::Range { name })) => Err(BlockFault::Range { name }),
+        Err(ReadError::Memory) => Err(BlockFault::Memory),
+    }
+}
+
+/// The block of a value that is spelled in so many bytes.
+fn read_sized(alloc: Global, v: &Val, size: usize) -> Result<Block, ReadError>
+    requires { IsTrue (canonical v.now) }
+    ensures { ReadsSized size v.now result }
+{
+    let block = read_member::<Block>(alloc, v)?;
+    if size > MOST_BYTES {
+        return Err(range(alloc, "t"));
+    }
+    Ok(block)
+}
+
+/// Appends the spelling of a block's record.
+pub fn encode_block(alloc: Global, b: &Block, out: &mut Vec<u8>) -> Result<(), AllocError>
+    ensures { OnOk result (out.new.items ≡ out.old.items ++ spelled (values.Map (block.write b.now))) }
+{
+    write(&Val::Map(b.entries(alloc)?), out)
+}

@@ -1,0 +1,4 @@
+pub mod Digits
+pub mod Letters
+pub mod Groups
+pub mod Readings

@@ -1,0 +1,89 @@
+//! Units of assets that move.
+ghost use Rattle.std.specs.Prelude.{◌≡◌, IsTrue, IfOk, codes, Ok};
+ghost use Rattle.al_record.specs.Columns.{Reads, AllShown, entries};
+ghost use Rattle.al_record.specs.Kinds.{text_kind};
+ghost use Rattle.al_record.specs.Canonical.{are_canonical};
+ghost use Rattle.al_txn.specs.Txn.{txn, axfer, axfer_txn, with_group};
+
+use crate::common::common;
+use crate::{AssetMove, Body, Txn};
+use al_base::{Address, Hash};
+use al_msgpack::{Entries, Entry};
+use al_record::{ANY_BYTES, Column, Content, HASH, ReadError, Shape, array, check, listed, number};
+use std::alloc::{AllocError, Global};
+
+const MOVE: [Column; 16] = [
+    Column("aamt", Shape::Number),
+    Column("aclose", HASH),
+    Column("arcv", HASH),
+    Column("asnd", HASH),
+    Column("fee", Shape::Number),
+    Column("fv", Shape::Number),
+    Column("gen", Shape::Text),
+    Column("gh", HASH),
+    Column("grp", HASH),
+    Column("lv", Shape::Number),
+    Column("lx", HASH),
+    Column("note", ANY_BYTES),
+    Column("rekey", HASH),
+    Column("snd", HASH),
+    Column("type", Shape::Text),
+    Column("xaid", Shape::Number),
+];
+
+/// A transaction of this type, or the first fault.
+pub fn read_move(alloc: Global, entries: &[Entry]) -> Result<Txn, ReadError>
+    requires canonical { IsTrue (are_canonical entries.now) }
+    requires kind { text_kind (codes "type") entries.now ≡ Ok (codes "axfer") }
+    ensures { Reads txn entries.now result }
+{
+    check(alloc, entries, &MOVE)?;
+    let body = Body::Move(move_of(entries));
+    Ok(common(alloc, entries, body)?)
+}
+
+/// What stands in a record that has passed its checks.
+pub fn move_of(entries: &[Entry]) -> AssetMove
+    ensures { AllShown axfer result entries.now }
+{
+    AssetMove {
+        asset: number(entries, "xaid"),
+        amount: number(entries, "aamt"),
+        source: Address(array(entries, "asnd")),
+        receiver: Address(array(entries, "arcv")),
+        close: Address(array(entries, "aclose")),
+    }
+}
+
+/// The record of a transaction of this type, with this group.
+pub fn move_entries<'a>(
+    alloc: Global,
+    t: &'a Txn,
+    group: &'a Hash,
+    m: &'a AssetMove,
+) -> Result<Entries, AllocError>
+    ensures { IfOk result (λ es. es ≡ entries axfer_txn (with_group group.now t.now, m.now)) }
+{
+    listed(
+        alloc,
+        &MOVE,
+        &[
+            Content::Number(m.amount),
+            Content::Array(&m.close.0),
+            Content::Array(&m.receiver.0),
+            Content::Array(&m.source.0),
+            Content::Number(t.fee),
+            Content::Number(t.first),
+            Content::Text(&t.genesis_id),
+            Content::Array(&t.genesis_hash),
+            Content::Array(group),
+            Content::Number(t.last),
+            Content::Array(&t.lease),
+            Content::Bytes(&t.note),
+            Content::Array(&t.rekey.0),
+            Content::Array(&t.sender.0),
+            Content::Word("axfer"),
+            Content::Number(m.asset),
+        ],
+    )
+}
