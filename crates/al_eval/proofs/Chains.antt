@@ -251,3 +251,10 @@ step_within s b place rule e l = block_within (before_of s) (map entry_of s.past
 
 pub step_is_fair : StepIsFair
 step_is_fair = record { kept = step_keeps; within = step_within }
+
+-- what else a block leaves
+pub after_step : (s t : State) (b : Block) → step s b ≡ Ok t → (t.header ≡ b.header) × (t.chain ≡ s.chain) × (t.past ≡ s.past ++ map (λ i. i.txn) b.items)
+unfolding step
+after_step s t b e =
+    let h = step_ok s t b (block_rows (before_of s) (map entry_of s.past) b (bare s.rows)) e in
+    (ap (λ (u : State). u.header) (sym h.2), ap (λ (u : State). u.chain) (sym h.2), ap (λ (u : State). u.past) (sym h.2))

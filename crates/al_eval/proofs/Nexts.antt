@@ -125,8 +125,8 @@ next_kept round rows new cs ordered before changed next =
 
     here : (q : Key) → IfSome (at new.entries q) (λ s. IsKept q s.row)
     here q = subst (λ o. IfSome o (λ (s : Stored). IsKept q s.row)) (sym (next q)) (below_kept (λ (s : Stored). IsKept q s.row) (at (map (left_of round) cs) q) (at rows.entries q)
-      (ranged-get (λ k (x : Option Stored). IfSome x (λ s. IsKept k s.row)) (map (left_of round) cs) q lefts)
-      (ranged-get (λ k (s : Stored). IsKept k s.row) rows.entries q before))
+        (ranged-get (λ k (x : Option Stored). IfSome x (λ s. IsKept k s.row)) (map (left_of round) cs) q lefts)
+        (ranged-get (λ k (s : Stored). IsKept k s.row) rows.entries q before))
 
 all_first : {A : Type 0} (P Q : A → Type 0) (xs : List A) → ((x : A) → P x → Q x) → All P xs → All Q xs
 all_first P Q xs f h = All-from_recursion Q xs (all_more xs f (recursion_from_All P xs h))

@@ -70,6 +70,15 @@ row_in key (Err r) = None
 abbrev pub row_at : State → List Block → ℕ → Key → Option Stored
 row_at s bs n key = row_in key (replay s (take n bs))
 
+-- the reward level of a state
+abbrev pub level_in : Result State Refusal → ℕ
+level_in (Ok s) = s.header.level
+level_in (Err r) = 0
+
+-- the reward level after the first n blocks
+abbrev pub level_at : State → List Block → ℕ → ℕ
+level_at s bs n = level_in (replay s (take n bs))
+
 -- a transaction that pays
 abbrev pub IsPay : Body → Type 0
 IsPay (body.Pay p) = ⊤

@@ -18,7 +18,7 @@ loop-change-preserved c =
     record {
       ordered = later_changes x rest sorted;
       same = λ q.
-      put_change c.args.round x rest (at c.loop-change.rows.entries) (at c.apply_one.new.rows.entries) sorted (λ p. c.in_ok-apply_one.ensures p) q
-      ∙ ap (λ (es : List Change). or_below (at (map (left_of c.args.round) es) q) (at c.loop-change.rows.entries q)) (sym steps)
-      ∙ c.loop-change.invariant.same q;
+          put_change c.args.round x rest (at c.loop-change.rows.entries) (at c.apply_one.new.rows.entries) sorted (λ p. c.in_ok-apply_one.ensures p) q
+          ∙ ap (λ (es : List Change). or_below (at (map (left_of c.args.round) es) q) (at c.loop-change.rows.entries q)) (sym steps)
+          ∙ c.loop-change.invariant.same q;
     }

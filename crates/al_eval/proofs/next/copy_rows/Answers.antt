@@ -17,9 +17,9 @@ loop-key-init c =
     record {
       ordered = subst (λ (es : List (Key × Stored)). IsStrictlySortedBy key_cmp (map (λ e. e.0) es)) (sym gives.0) sorted;
       same = λ q.
-      ap (λ (es : List (Key × Stored)). or_below (at (map (λ e. (e.0, Some e.1)) es) q) (at c.new-out.result.entries q)) gives.0
-      ∙ ap (λ (es : List (Key × Stored)). or_below (at (map (λ e. (e.0, Some e.1)) c.args.rows.now.entries) q) (at es q)) c.new-out.ensures.empty
-      ∙ all_put c.args.rows.now.entries q;
+          ap (λ (es : List (Key × Stored)). or_below (at (map (λ e. (e.0, Some e.1)) es) q) (at c.new-out.result.entries q)) gives.0
+          ∙ ap (λ (es : List (Key × Stored)). or_below (at (map (λ e. (e.0, Some e.1)) c.args.rows.now.entries) q) (at es q)) c.new-out.ensures.empty
+          ∙ all_put c.args.rows.now.entries q;
     }
 
 pub loop-key-preserved : goal.loop-key-preserved
@@ -32,8 +32,8 @@ loop-key-preserved c =
     record {
       ordered = later_sorted (k, s) rest sorted;
       same = λ q.
-      put_first k (Some s) (map (λ e. (e.0, Some e.1)) rest) (at c.loop-key.out.entries) (at c.put.new.rows.entries) (sorted_alike (λ (e : Key × Stored). Some e.1) ((k, s) ∷ rest) sorted)
-      (λ p. c.in_ok-put.ensures p ∙ ap (λ (v : Stored). cond (is_at (key_cmp k) p) (Some v) (at c.loop-key.out.entries p)) c.in_ok-copy.ensures) q
-      ∙ ap (λ (es : List (Key × Stored)). or_below (at (map (λ e. (e.0, Some e.1)) es) q) (at c.loop-key.out.entries q)) (sym steps)
-      ∙ c.loop-key.invariant.same q;
+          put_first k (Some s) (map (λ e. (e.0, Some e.1)) rest) (at c.loop-key.out.entries) (at c.put.new.rows.entries) (sorted_alike (λ (e : Key × Stored). Some e.1) ((k, s) ∷ rest) sorted)
+          (λ p. c.in_ok-put.ensures p ∙ ap (λ (v : Stored). cond (is_at (key_cmp k) p) (Some v) (at c.loop-key.out.entries p)) c.in_ok-copy.ensures) q
+          ∙ ap (λ (es : List (Key × Stored)). or_below (at (map (λ e. (e.0, Some e.1)) es) q) (at c.loop-key.out.entries q)) (sym steps)
+          ∙ c.loop-key.invariant.same q;
     }
