@@ -228,7 +228,7 @@ all_moved level who to m n apart e =
 -- ---- bodies
 
 -- one fair step after another
-fair_then : (level : ℕ) (m : RowMap) (due : Result RowMap Rule) (f : RowMap → Result RowMap Rule) → IsFair level m due → ((n : RowMap) → due ≡ Ok n → IsFair level n (f n)) → IsFair level m (then_do due f)
+pub fair_then : (level : ℕ) (m : RowMap) (due : Result RowMap Rule) (f : RowMap → Result RowMap Rule) → IsFair level m due → ((n : RowMap) → due ≡ Ok n → IsFair level n (f n)) → IsFair level m (then_do due f)
 fair_then level m (Ok n) f h g = after (f n) (g n refl)
   where
     after : (r : Result RowMap Rule) → IsFair level n r → IsFair level m r
