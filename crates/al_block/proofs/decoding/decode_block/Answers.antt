@@ -2,7 +2,7 @@ use Rattle.std.proofs.Common.{arith}
 use Rattle.al_msgpack.proofs.Exact.{Fit}
 use Rattle.al_msgpack.proofs.Sizes.{limit}
 use Rattle.al_msgpack.proofs.Verdicts.{bytes_fit}
-use Rattle.al_block.proofs.Decoding.{only_from}
+use Rattle.al_block.proofs.Meaning.{only_from}
 use Rattle.al_block.proofs.decoding.decode_block.Goals as goal
 
 pub returns-clause-only : goal.returns-clause-only

@@ -1,4 +1,4 @@
-use Rattle.al_block.proofs.Decoding.{back_from}
+use Rattle.al_block.proofs.Meaning.{back_from}
 use Rattle.al_block.proofs.decoding.encode_block.Goals as goal
 
 pub returns-clause-back : goal.returns-clause-back

@@ -1,4 +1,4 @@
-use Rattle.al_block.proofs.Decoding.{once}
+use Rattle.al_block.proofs.Meaning.{once}
 use Rattle.al_block.proofs.Same.{header_determined, block_determined}
 use Rattle.al_block.proofs.laws.block_laws.Goals as goal
 

@@ -57,7 +57,10 @@ means_same input fit r s p q = sym (means_verdict input fit r p) ∙ means_verdi
 spelled_faulty : (input : List ℕ) → Fit limit input → (v : Val) (f : DecodeFault) → IsSpelling v input → Means input (Err f) → ⊥
 spelled_faulty input fit v f p q = let e = means_same input fit (Ok v) (Err f) p q in absurd cc
 
-decode_back : (f g : DecodeFault) → Err {Val} f ≡ Err g → f ≡ g
+abbrev val_err : DecodeFault → Result Val DecodeFault
+val_err f = Err f
+
+decode_back : (f g : DecodeFault) → val_err f ≡ val_err g → f ≡ g
 decode_back f g e = cc
 
 field_back : (a b : List ℕ) → Field a ≡ Field b → a ≡ b
