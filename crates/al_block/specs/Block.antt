@@ -63,3 +63,15 @@ BlockMeansUnless input (Err (faults.Decode f)) = Means input (Err f)
 BlockMeansUnless input (Err (faults.Field name)) = IsFaulty input (Field name)
 BlockMeansUnless input (Err (faults.Range name)) = IsFaulty input (Range name)
 BlockMeansUnless input (Err faults.Memory) = Unit {0}
+
+-- what is right is answered, unless memory ran out
+abbrev pub BlockAnswers : Result Block BlockFault → Result Block BlockFault → Type 0
+BlockAnswers (Err faults.Memory) r = Unit {0}
+BlockAnswers (Ok b) r = r ≡ Ok b
+BlockAnswers (Err (faults.Decode f)) r = r ≡ Err (faults.Decode f)
+BlockAnswers (Err (faults.Field name)) r = r ≡ Err (faults.Field name)
+BlockAnswers (Err (faults.Range name)) r = r ≡ Err (faults.Range name)
+
+-- bytes spell at most one block
+abbrev pub SpellsOneBlock : Type 0
+SpellsOneBlock = (input : List ℕ) (a b : Block) → IsBlock input a → IsBlock input b → a ≡ b

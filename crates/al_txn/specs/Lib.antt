@@ -4,3 +4,4 @@ pub mod Effect
 pub mod Item
 pub mod Form
 pub mod Ids
+pub mod Laws

@@ -14,6 +14,7 @@ mod id;
 mod inner;
 mod item;
 mod kept;
+mod laws;
 mod payment;
 mod record;
 mod registration;
@@ -26,5 +27,9 @@ pub use effect::{Effect, Effects, Inner};
 pub use form::{Ill, well_formed};
 pub use id::{digest_val, encode_txn, group_id, txid};
 pub use item::{ItemFault, decode_item};
+pub use laws::txn_laws;
 pub use record::{read_txn, txn_entries};
 pub use txn::{Item, Items, Txn};
+
+#[cfg(test)]
+mod tests;
