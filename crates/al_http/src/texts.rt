@@ -1,5 +1,5 @@
 //! The bytes of answers.
-ghost use Rattle.std.specs.Prelude.{◌≡◌, ◌++◌, codes, string_bytes, IfOk, OnOk, false, decimal};
+ghost use Rattle.std.specs.Prelude.{◌≡◌, ◌++◌, codes, string_bytes, IfOk, OnOk, OnErr, false, decimal};
 ghost use Rattle.serde_json.specs.View.{view, members_view};
 ghost use Rattle.serde_json.specs.Data.{object, put};
 ghost use Rattle.serde_json.specs.Written.{compact_text, has_float};
@@ -193,15 +193,31 @@ fn put_body(alloc: Global, out: &mut Vec<u8>, body: &[u8]) -> Result<(), AllocEr
     out.extend_from_slice(body)
 }
 
-/// Appends the bytes of an answer: its status line, its fields, and its JSON text.
+// The bytes of an answer.
 #[tactic(auto, unfolding(crate::specs::Answers::answer_text))]
-pub fn answer_bytes(alloc: Global, a: &Answer, out: &mut Vec<u8>) -> Result<(), AllocError>
+fn answer_of(alloc: Global, a: &Answer) -> Result<Vec<u8>, AllocError>
     requires { IsSound a.now }
-    ensures { OnOk result (out.new.items ≡ out.old.items ++ answer_text a.now) }
+    ensures { IfOk result (λ text. text.items ≡ answer_text a.now) }
 {
     let body = body_text(alloc, a)?;
-    put_head(alloc, out, status_of(a))?;
-    put_body(alloc, out, body.as_bytes())
+    let mut text = Vec::new(alloc);
+    put_head(alloc, &mut text, status_of(a))?;
+    put_body(alloc, &mut text, body.as_bytes())?;
+    Ok(text)
+}
+
+/// Appends the bytes of an answer: its status line, its fields, and its JSON text.
+///
+/// # Errors
+///
+/// Only where memory is short; nothing is appended then.
+pub fn answer_bytes(alloc: Global, a: &Answer, out: &mut Vec<u8>) -> Result<(), AllocError>
+    requires { IsSound a.now }
+    ensures ok { OnOk result (out.new.items ≡ out.old.items ++ answer_text a.now) }
+    ensures err { OnErr result (out.new.items ≡ out.old.items) }
+{
+    let text = answer_of(alloc, a)?;
+    out.extend_from_slice(&text)
 }
 
 const MEMORY: &[u8] =
