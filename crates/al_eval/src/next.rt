@@ -115,8 +115,8 @@ fn next_rows(
     Ok(out)
 }
 
-/// The rows after a block that is taken, or the first refusal. `rows` are those before it, and
-/// `tail` the transactions of the chain.
+/// The rows after a block of payments that is taken, or the first refusal, as `eval` says. `rows`
+/// are those before it, and `tail` the transactions of the chain.
 pub fn step_rows(
     alloc: Global,
     rows: &BTreeMap<Key, Stored>,

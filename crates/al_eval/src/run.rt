@@ -116,7 +116,9 @@ fn eval_over<V: RowView>(
 
 /// The step of a block over a view: what it changes, or the first refusal. It follows the Algorand
 /// ledger specification: first the header's fields, then the digest of the payset, then each
-/// transaction in order, and last the count of transactions.
+/// transaction in order, and last the count of transactions. Each transaction is taken as a group
+/// of its own, bodies other than payments do nothing, the list of expired accounts is not looked
+/// at, and the reward fields are those that are due while nothing is to be given.
 pub fn eval<V: RowView>(
     alloc: Global,
     view: &mut V,

@@ -1,5 +1,5 @@
 -- The rows that differ, among those that were set.
-use Rattle.std.proofs.Common.{◌≡◌, refl, sym, ap, ◌∙◌, subst, List, [], ◌∷◌, map, Option, Some, None, Bool, true, false, cond, not, T, IsSome, IfSome, true≢false, Less, Equal, Greater, is_lt, ◌&&◌, if◌then◌else◌, All, Result, Ok, Err, IfOk, OnOk, Vec}
+use Rattle.std.proofs.Common.{◌≡◌, refl, sym, ap, ◌∙◌, subst, List, [], ◌∷◌, map, Option, Some, None, Bool, true, false, cond, not, T, IsSome, IfSome, true≢false, Less, Equal, Greater, is_lt, ◌&&◌, if◌then◌else◌, All, Result, Ok, Err, IfOk, OnOk}
 use Rattle.std.specs.List.{AllByRecursion}
 use Rattle.std.specs.List.Sorted.{IsStrictlySortedBy}
 use Rattle.std.proofs.lemmas.List.Elements.{All-from_recursion}

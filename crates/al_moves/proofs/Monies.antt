@@ -1,5 +1,5 @@
 -- No transaction makes or loses money.
-use Rattle.std.proofs.Common.{◌≡◌, ◌≢◌, ℕ, ◌+◌, ◌-◌, ◌*◌, ◌/◌, ◌<◌, ◌≤◌, min, refl, sym, ap, ◌∙◌, List, Option, Some, None, Bool, true, false, cond, not, arith, Result, Ok, Err, nat_eq, nat_lt, nat_le, ◌||◌, ◌&&◌, if◌then◌else◌, eqb-true, ltb-true, ltb-false, rules, tests, zero-mul, mul-zero, mul-add, mul_comm, leb-true, IfSome, [], ◌∷◌, is_none}
+use Rattle.std.proofs.Common.{◌≡◌, ◌≢◌, ℕ, ◌+◌, ◌-◌, ◌*◌, ◌/◌, ◌<◌, ◌≤◌, min, refl, sym, ap, ◌∙◌, List, Option, Some, None, Bool, true, false, cond, not, arith, Result, Ok, Err, nat_eq, nat_lt, nat_le, ◌||◌, ◌&&◌, if◌then◌else◌, ltb-true, ltb-false, rules, tests, zero-mul, mul-zero, mul-add, mul_comm, leb-true, IfSome, [], ◌∷◌, is_none}
 use Rattle.std.specs.Option.{option_or}
 use Rattle.al_base.specs.declared.account.Special.{Special}
 use Rattle.al_rewards.specs.declared.share.Share.{Share}

@@ -1,17 +1,10 @@
 -- The first shortfall among what changed is the first of all.
-use Rattle.std.proofs.Common.{◌≡◌, ℕ, refl, sym, ap, ap₂, ◌∙◌, subst, List, map, Option, Some, None, Bool, true, false, cond, IsSome, is_some, is_none, true≢false, ◌||◌, nat_eq, ⊎_elim}
-use Rattle.std.specs.Cmp.{nat_eq_equiv}
-use Rattle.std.specs.Cmp.Lexicographic.{nat_list_eq_equiv}
-use Rattle.std.specs.Cmp.Lexicographic.{pointwise}
+use Rattle.std.proofs.Common.{◌≡◌, ℕ, refl, sym, ap, ap₂, ◌∙◌, subst, List, map, Option, Some, None, Bool, true, false, cond, IsSome, is_some, is_none, true≢false, ◌||◌, ⊎_elim}
 use Rattle.std.specs.List.Sorted.{IsStrictlySortedBy}
 use Rattle.std.specs.FinMap.{get, entries, entries_sorted, get-entries}
-use Rattle.al_base.specs.declared.address.Address.{Address}
 use Rattle.al_base.specs.declared.key.Key.{Key}
 use Rattle.al_base.specs.declared.key.Key.TheVariants as key
 use Rattle.al_rows.specs.declared.row.Row.{Row}
-use Rattle.al_rows.specs.declared.row.Row.TheVariants as row
-use Rattle.al_base.specs.declared.account.Status.{Status}
-use Rattle.al_base.specs.declared.account.Status.TheVariants.{Offline, Online, NotParticipating}
 use Rattle.al_base.specs.Keys.{key_cmp}
 use Rattle.al_rows.specs.Finite.{overlaid, or_below}
 use Rattle.al_rows.specs.Finite.{first_some}

@@ -1,5 +1,5 @@
 -- What a work is: a map of rows over another.
-use Rattle.std.specs.Prelude.{◌≡◌, ℕ, List, Bool, true, false, IfSome, IsSome, ◌≤◌, ⊤}
+use Rattle.std.specs.Prelude.{◌≡◌, ℕ, List, Bool, true, IfSome, IsSome, ◌≤◌, ⊤}
 use Rattle.std.specs.declared.option.Option.{Option}
 use Rattle.std.specs.declared.option.Option.TheVariants.{None, Some}
 use Rattle.std.specs.declared.result.Result.{Result}

@@ -2,5 +2,7 @@
 #![tactic(auto)]
 
 mod share;
+#[cfg(test)]
+mod tests;
 
 pub use share::{MAX_BALANCE, Share, pending};

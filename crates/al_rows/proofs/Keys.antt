@@ -1,5 +1,5 @@
 -- The order of keys is total, and tells all keys apart.
-use Rattle.std.proofs.Common.{◌≡◌, ℕ, refl, sym, ap, subst, Ordering, Less, Equal, Greater, nat_cmp, List, [], ◌∷◌, ◌≤◌, ◌-◌, length, drop, replicate}
+use Rattle.std.proofs.Common.{◌≡◌, ℕ, refl, sym, ap, subst, Ordering, Less, Equal, Greater, nat_cmp, List, [], ◌≤◌, ◌-◌, drop, replicate}
 use mathlib.Core.HLevel.{is_prop→PathP}
 use mathlib.Core.List.{is_set}
 use Rattle.std.proofs.Math.Bridge.{le_prop}

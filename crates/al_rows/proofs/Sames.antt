@@ -1,5 +1,5 @@
 -- Rows that are the same by the test are equal, and the derived comparison is the test.
-use Rattle.std.proofs.Common.{◌≡◌, refl, sym, ap, ap₂, ◌∙◌, ℕ, List, [], ◌∷◌, Option, Some, None, Bool, true, false, nat_eq, ◌&&◌, eqb-true}
+use Rattle.std.proofs.Common.{◌≡◌, refl, ap, ap₂, ℕ, List, [], ◌∷◌, Option, Some, None, Bool, true, false, nat_eq, ◌&&◌, eqb-true}
 use mathlib.Core.Bool.{beq}
 use Rattle.std.specs.Cmp.Lexicographic.{pointwise, nat_list_eq_equiv}
 use Rattle.std.specs.Cmp.{nat_eq_equiv}

@@ -1,5 +1,5 @@
 -- The rows of the ledger by the Algorand ledger specification: what stands under which key, what it is worth, and when it is none.
-use Rattle.std.specs.Prelude.{◌≡◌, ℕ, ◌+◌, ◌-◌, ◌*◌, ◌/◌, ◌^◌, ◌≤◌, Bool, true, false, if◌then◌else◌, ◌&&◌, ◌||◌, nat_eq, ⊤, List, [], ◌∷◌, replicate, length, is_none, is_some}
+use Rattle.std.specs.Prelude.{◌≡◌, ℕ, ◌+◌, ◌*◌, ◌^◌, ◌≤◌, Bool, true, false, if◌then◌else◌, ◌&&◌, nat_eq, ⊤, List, [], ◌∷◌, replicate, length, is_none, is_some}
 use Rattle.std.specs.declared.option.Option.{Option}
 use Rattle.std.specs.declared.option.Option.TheVariants.{None, Some}
 use Rattle.std.specs.Cmp.Lexicographic.{pointwise}
@@ -13,10 +13,8 @@ use Rattle.al_base.specs.declared.key.Key.TheVariants as key
 use Rattle.al_base.specs.Keys.{key_cmp}
 use Rattle.al_rows.specs.declared.account.AccountRow.{AccountRow}
 use Rattle.al_rows.specs.declared.row.Holding.{Holding}
-use Rattle.al_rows.specs.declared.row.AssetRow.{AssetRow}
 use Rattle.al_rows.specs.declared.row.AppParams.{AppParams}
 use Rattle.al_rows.specs.declared.row.Local.{Local}
-use Rattle.al_rows.specs.declared.row.AppRow.{AppRow}
 use Rattle.al_rows.specs.declared.row.Row.{Row}
 use Rattle.al_rows.specs.declared.row.Row.TheVariants as row
 use Rattle.al_rows.specs.declared.stored.Stored.{Stored}

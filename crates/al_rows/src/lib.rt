@@ -4,6 +4,8 @@
 mod account;
 mod row;
 mod stored;
+#[cfg(test)]
+mod tests;
 mod view;
 
 pub use account::{AccountRow, account_in};

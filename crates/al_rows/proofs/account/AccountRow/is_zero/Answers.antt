@@ -1,6 +1,6 @@
-use Rattle.std.proofs.Common.{◌∙◌, ap, refl}
+use Rattle.std.proofs.Common.{◌∙◌, ap}
 use Rattle.al_rows.specs.declared.account.AccountRow.{AccountRow}
-use Rattle.al_rows.specs.Rows.{account_eq, is_zero_account, no_account}
+use Rattle.al_rows.specs.Rows.{account_eq, is_zero_account}
 use Rattle.al_rows.proofs.Sames.{account_tests}
 use Rattle.al_rows.proofs.account.AccountRow.is_zero.Goals as goal
 
