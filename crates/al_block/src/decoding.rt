@@ -29,9 +29,14 @@ pub enum BlockFault {
     Memory,
 }
 
-/// The block whose record the input spells, or the first fault: of the spelling, then of the
-/// record, then `Range` of `t` where the spelling has more than 5,242,880 bytes. An absent header
-/// reads as the empty map.
+/// The block whose record the input spells, or the first fault.
+///
+/// - `Decode` exactly where the input is the spelling of no value.
+/// - `Field` and `Range` exactly where it spells a value whose record has that first fault. All
+///   outer fields are checked for `Field` first; then the header `b` (absent: as the empty map),
+///   and then the entries of `t` one by one. A value that is no map is `Field` of the empty name.
+/// - `Range` of `t` where the input has more than 5,242,880 bytes and no other fault.
+/// - `Memory`: the block does not fit into memory.
 pub fn decode_block(alloc: Global, input: &[u8]) -> Result<Block, BlockFault>
     requires { length input.now < 2 ^ 31 }
     // Each answer is right, by the format alone.

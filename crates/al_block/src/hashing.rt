@@ -11,7 +11,7 @@ use al_record::list_of_all;
 use al_txn::{Item, digest_val};
 use std::alloc::{AllocError, Global};
 
-/// The hash of a block: the digest of its header's spelling.
+/// The hash of a block: SHA-512/256 of `BH` and its header's spelling.
 pub fn header_hash(alloc: Global, h: &Header) -> Result<Hash, AllocError>
     ensures { IfOk result (λ hash. hash ≡ header_hash_of h.now) }
 {
@@ -19,7 +19,8 @@ pub fn header_hash(alloc: Global, h: &Header) -> Result<Hash, AllocError>
     digest_val(alloc, Prefix::Header, &Val::Map(entries))
 }
 
-/// The digest of the payset's spelling, which the header's `payset` has to be.
+/// SHA-512/256 of `PL` and the spelling of the list of the block's entries, which the header's
+/// `payset` has to be.
 pub fn payset_hash(alloc: Global, b: &Block) -> Result<Hash, AllocError>
     ensures { IfOk result (λ hash. hash ≡ payset_hash_of b.now.items) }
 {

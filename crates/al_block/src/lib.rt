@@ -1,4 +1,8 @@
 //! Blocks: headers, paysets, records and hashes.
+//!
+//! A block's record is a map with the header `b` and the list `t` of payset entries.
+//! [`decode_block`] reads a block from its spelling, or finds the first fault; [`encode_block`]
+//! gives the spelling back; [`block_laws`] says that bytes spell at most one block.
 #![tactic(auto)]
 
 mod block;

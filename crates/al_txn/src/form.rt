@@ -84,13 +84,7 @@ fn body_fault(txn: &Txn) -> Option<u64>
     ensures { result ≡ first_broken (body_tests txn.now) }
 {
     match &txn.body {
-        Body::Pay(p) => {
-            if p.close == txn.sender {
-                Some(9)
-            } else {
-                None
-            }
-        }
+        Body::Pay(p) => { if p.close == txn.sender { Some(9) } else { None } }
         Body::KeyReg(k) => keyreg_fault(k, txn.last),
         Body::Config(c) => config_fault(c),
         Body::Move(m) => move_fault(m),

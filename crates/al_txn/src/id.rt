@@ -30,7 +30,7 @@ pub fn digest_val(alloc: Global, prefix: Prefix, v: &Val) -> Result<Hash, AllocE
     Ok(digest(prefix, bytes.as_slice()))
 }
 
-/// The id of a transaction. Effects beside it do not count.
+/// The id of a transaction: SHA-512/256 of `TX` and its spelling. Effects beside it do not count.
 pub fn txid(alloc: Global, t: &Txn) -> Result<Hash, AllocError>
     ensures { IfOk result (λ h. h ≡ txid_of t.now) }
 {
@@ -45,7 +45,8 @@ fn lone_txid(alloc: Global, t: &Txn) -> Result<Hash, AllocError>
     digest_val(alloc, Prefix::Tx, &Val::Map(entries))
 }
 
-/// The id of a group with these members, from their ids outside of the group.
+/// The id of a group with these members: SHA-512/256 of `TG` and the spelling of the map with the
+/// one field `txlist`, the list of the members' ids, each taken with group zero.
 pub fn group_id(alloc: Global, items: &[Item]) -> Result<Hash, AllocError>
     ensures { IfOk result (λ h. h ≡ group_id_of items.now) }
 {

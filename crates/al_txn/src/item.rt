@@ -69,6 +69,12 @@ impl Record for Item {
 }
 
 /// The entry of a payset whose record a value is, or the first fault of that record.
+///
+/// Fields are checked in byte order of their names: first all for `Field` (an unknown name, another
+/// family, the zero value), then all for `Range`; an inner record is checked at its field's place
+/// in the second pass. A field that names a kind (`type`, `e`) comes before all others of its
+/// record. A value that is no map is `Field` of the empty name. `fx` stands beside the type `appl`
+/// alone, with at most 256 effects, else it is `Range` of `fx`.
 pub fn decode_item(alloc: Global, v: &Val) -> Result<Item, ItemFault>
     requires { IsTrue (canonical v.now) }
     ensures { ReadsItem v.now result }

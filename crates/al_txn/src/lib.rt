@@ -1,4 +1,11 @@
 //! Transactions and what they do: data, records, ids.
+//!
+//! A transaction's record is a map with the transaction's `type` (`pay`, `keyreg`, `acfg`, `axfer`,
+//! `afrz` or `appl`), the fields that all types share, and its type's own; fields with their zero
+//! value are left out. An entry of a payset is a map with `txn` and, beside a call of an
+//! application, the list `fx` of what the call did. [`decode_item`] reads an entry, or finds its
+//! first fault; [`txn_laws`] says that each record determines its value. Ids are digests of
+//! spellings: [`txid`], [`group_id`].
 #![tactic(auto)]
 
 mod body;
