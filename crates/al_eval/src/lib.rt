@@ -7,3 +7,6 @@ mod genesis_fields;
 mod genesis_record;
 
 pub use genesis::{Genesis, GenesisFault, GenesisRow, GenesisRows};
+
+#[cfg(test)]
+mod genesis_tests;
