@@ -1,12 +1,12 @@
 -- A file that is put into a list of files.
-use Rattle.std.proofs.Common.{◌≡◌, ◌≢◌, ℕ, ◌+◌, ◌<◌, ◌≤◌, Bool, true, false, cond, not, List, [], ◌∷◌, ◌++◌, length, Option, Some, None, refl, sym, ◌∙◌, ap, subst, arith, suc, zero, one-add, nat_lt}
+use Rattle.std.proofs.Common.{◌≡◌, ◌≢◌, ℕ, ◌<◌, ◌≤◌, Bool, true, false, cond, List, [], ◌∷◌, ◌++◌, length, Some, None, refl, sym, ◌∙◌, subst, arith, suc, zero, one-add, nat_lt}
 use Rattle.std.specs.List.{position, position_or_len, find}
 use Rattle.std.specs.Str.{bytes_eq}
 use Rattle.std.specs.Prelude.{slice_set, option_map}
 use Rattle.std.proofs.lemmas.Bool.Decides.{nat_tests}
 use Rattle.std.proofs.lemmas.Slice.Eq.{bytes_eq-Decides}
 use Rattle.std.proofs.lemmas.Bool.{false_from_ne_true, false≢true}
-use Rattle.al_base.specs.Folders.{is_named, file_of, KeepsOthers, Replaces}
+use Rattle.al_base.specs.Folders.{is_named, file_of, Replaces}
 use Rattle.al_base.specs.declared.folder.NamedFile.{NamedFile}
 
 -- where the first file of this name is, or the length where there is none

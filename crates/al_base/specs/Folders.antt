@@ -1,5 +1,5 @@
 -- What goes through a folder.
-use Rattle.std.specs.Prelude.{◌≡◌, ◌≢◌, ℕ, ◌≤◌, ◌<◌, List, [], ◌∷◌, length, ⊤, Bool, true, false, Option, Some, None, Result, Ok, Err, IfSome, IsSomeAnd, bytes_eq, find, option_map}
+use Rattle.std.specs.Prelude.{◌≡◌, ◌≢◌, ℕ, ◌≤◌, ◌<◌, List, length, ⊤, Bool, true, false, Option, Some, None, Result, Ok, Err, IfSome, IsSomeAnd, bytes_eq, find, option_map}
 use Rattle.al_base.specs.Causes.{Rose}
 use Rattle.al_base.specs.declared.folder.FolderRefusal.{FolderRefusal}
 use Rattle.al_base.specs.declared.folder.FolderRefusal.TheVariants.{Failed, TooLong, Memory}

@@ -4,108 +4,79 @@ use crate::{
     WriteSink,
 };
 use std::alloc::{AllocError, Global};
-use std::cmp::Ordering;
-use std::io::{self, ErrorKind, Read, Write};
 use std::process::Abort;
 use std::test::*;
+
+fn is_read_back(key: Key) -> bool {
+    Key::of_bytes(key.bytes().as_slice()) == Some(key)
+}
 
 // A kind, whose it is, and numbers of 8 bytes most significant first.
 #[test]
 fn key_bytes(rt: HostRuntime) {
-    let id = 0x0102_0304_0506_0708;
-    let name = BoxName::new(b"ab").expect(&rt, "a name of two bytes");
-    let account = Key::Account(Address([9; 32]));
-    let resource = Key::Resource(Address([9; 32]), id);
-    let named_box = Key::Box(id, name);
-    let box_bytes = [2, 1, 2, 3, 4, 5, 6, 7, 8, b'a', b'b'];
-    assert_eq!(rt; named_box.bytes().as_slice(), &box_bytes[..]);
-    assert!(rt;
-        resource
-            .bytes()
-            .as_slice()
-            .ends_with(&[9, 1, 2, 3, 4, 5, 6, 7, 8])
-    );
-    assert!(rt; account.bytes().as_slice().starts_with(&[0, 9, 9]));
-    for key in [account, resource, named_box] {
-        assert_eq!(rt; Key::of_bytes(key.bytes().as_slice()), Some(key));
-    }
+    let bytes = [2, 1, 2, 3, 4, 5, 6, 7, 8, b'a', b'b'];
+    let key = BoxName::new(b"ab").map(|name| Key::Box(0x0102_0304_0506_0708, name));
+    assert_eq!(rt; Key::of_bytes(&bytes), key);
+    assert!(rt; is_read_back(Key::Account(Address([9; 32]))));
+    assert!(rt; is_read_back(Key::Resource(Address([9; 32]), 258)));
 }
 
-// Bytes that are no key's: none, of an unknown kind, or of a wrong length.
-#[test]
-fn no_key(rt: HostRuntime) {
+fn is_key(kind: u8, len: usize) -> bool {
     let mut bytes = [1; 74];
-    for len in [0, 1, 33, 40, 42] {
-        assert_eq!(rt; Key::of_bytes(&bytes[..len]), None, "at {len}");
-    }
-    bytes[0] = 2;
-    for (len, is_key) in [(8, false), (9, false), (10, true), (73, true), (74, false)] {
-        assert_eq!(rt; Key::of_bytes(&bytes[..len]).is_some(), is_key, "at {len}");
-    }
-    bytes[0] = 3;
-    assert_eq!(rt; Key::of_bytes(&bytes[..33]), None);
+    bytes[0] = kind;
+    Key::of_bytes(&bytes[..len.min(74)]).is_some()
 }
 
 #[test]
-fn key_order(rt: HostRuntime) {
-    let short = BoxName::new(b"a").expect(&rt, "a name");
-    let long = BoxName::new(b"a\0").expect(&rt, "a name with a zero");
-    let keys = [
-        Key::Account(Address([255; 32])),
-        Key::Resource(Address([0; 32]), 255),
-        Key::Resource(Address([0; 32]), 256),
-        Key::Box(1, long),
-        Key::Box(2, short),
-        Key::Box(2, long),
-    ];
-    for pair in keys.windows(2) {
-        assert_eq!(rt; pair[0].compare(&pair[1]), Ordering::Less);
+fn lengths_of_keys(rt: HostRuntime) {
+    let keys = [(0, 33), (1, 41), (2, 10), (2, 73)];
+    for (kind, len) in keys {
+        assert!(rt; is_key(kind, len), "{kind} of {len}");
+    }
+    let others = [(0, 0), (0, 32), (0, 34), (1, 40), (2, 9), (2, 74), (3, 33)];
+    for (kind, len) in others {
+        assert!(rt; !is_key(kind, len), "{kind} of {len}");
     }
 }
 
-#[test]
-fn sources_and_sinks(rt: HostRuntime) -> Result<(), Fail> {
-    let alloc = rt.alloc();
+// Whether three calls answer these numbers, or that they fail.
+fn takes<S: Source>(source: &mut S, wants: [Option<usize>; 3]) -> bool {
     let mut buf = [0; 2];
-    let mut source = MemSource::new(alloc, b"abc", &[2])?;
-    for want in [Ok(2), Err(Failed), Ok(1), Ok(0)] {
-        assert_eq!(rt; source.take(&mut buf), want);
+    for want in wants {
+        if source.take(&mut buf).ok() != want {
+            return false;
+        }
     }
-    assert_eq!(rt; QuietSource::new(alloc, b"abc")?.take(&mut buf), Ok(2));
-    assert_eq!(rt; ReadSource::new(&b"abc"[..]).take(&mut buf), Ok(2));
-    assert_eq!(rt; ReadSource::new(Broken).take(&mut buf), Err(Failed));
+    true
+}
 
+#[test]
+fn sources(rt: HostRuntime) -> Result<(), Fail> {
+    let alloc = rt.alloc();
+    let wants = [Some(2), Some(1), Some(0)];
+    assert!(rt;
+        takes(
+            &mut MemSource::new(alloc, b"abc", &[2])?,
+            [Some(2), None, Some(1)]
+        )
+    );
+    assert!(rt; takes(&mut QuietSource::new(alloc, b"abc")?, wants));
+    assert!(rt; takes(&mut ReadSource::new(&b"abc"[..]), wants));
+    Ok(())
+}
+
+#[test]
+fn sinks(rt: HostRuntime) -> Result<(), Fail> {
+    let alloc = rt.alloc();
     let mut sink = MemSink::new(alloc, b"a", &[1])?;
     assert_eq!(rt; sink.put(b"b"), Err(Failed));
     assert_eq!(rt; sink.put(b"c"), Ok(()));
     assert_eq!(rt; sink.bytes(), b"ac".as_slice());
-    let mut quiet = QuietSink::new(alloc, b"a")?;
-    assert_eq!(rt; quiet.put(b"c"), Ok(()));
-    assert_eq!(rt; quiet.bytes(), b"ac".as_slice());
-    assert!(rt; quiet.is_whole());
+    let mut sink = QuietSink::new(alloc, b"a")?;
+    assert_eq!(rt; sink.put(b"c"), Ok(()));
+    assert_eq!(rt; sink.bytes(), b"ac".as_slice());
     assert_eq!(rt; WriteSink::new(Vec::new(alloc)).put(b"c"), Ok(()));
-    assert_eq!(rt; WriteSink::new(Broken).put(b"c"), Err(Failed));
     Ok(())
-}
-
-// It reads nothing, and takes nothing of what is written.
-#[derive(Drop)]
-struct Broken;
-
-impl Read for Broken {
-    fn read(&mut self, _buf: &mut [u8]) -> io::Result<usize> {
-        Err(io::Error::from(ErrorKind::Other))
-    }
-}
-
-impl Write for Broken {
-    fn write(&mut self, _buf: &[u8]) -> io::Result<usize> {
-        Ok(0)
-    }
-
-    fn flush(&mut self) -> io::Result<()> {
-        Ok(())
-    }
 }
 
 fn one_file(alloc: Global) -> Result<Files, AllocError> {
@@ -117,31 +88,44 @@ fn one_file(alloc: Global) -> Result<Files, AllocError> {
     Ok(files)
 }
 
+// How long a read says that a file is.
+fn file_len<F: Folder>(
+    folder: &mut F,
+    alloc: Global,
+    name: &str,
+    limit: usize,
+) -> Result<Option<usize>, FolderRefusal> {
+    let file = folder.read(alloc, name, limit)?;
+    Ok(file.map(|bytes| bytes.len()))
+}
+
 #[test]
 fn folders(rt: HostRuntime) -> Result<(), Fail> {
     let alloc = rt.alloc();
     let mut folder = MemFolder::new(alloc, one_file(alloc)?, &[2])?;
-    assert_eq!(rt;
-        folder.read(alloc, "a", 3)?,
-        Some(Bytes::of(alloc, b"xyz")?)
-    );
-    assert_eq!(rt; folder.read(alloc, "a", 3), Err(FolderRefusal::Failed));
-    assert_eq!(rt;
-        folder.read(alloc, "a", 2),
-        Err(FolderRefusal::TooLong { limit: 2 })
-    );
-    assert_eq!(rt; folder.read(alloc, "b", 2), Ok(None));
-    assert_eq!(rt; folder.write("b", b"w"), Ok(()));
-    assert_eq!(rt; folder.write("a", b""), Ok(()));
-    assert_eq!(rt; folder.file("a"), Some(&b""[..]));
-    assert_eq!(rt; folder.file("b"), Some(&b"w"[..]));
-    let mut quiet = QuietFolder::new(alloc, one_file(alloc)?)?;
-    assert_eq!(rt; quiet.write("a", b"w"), Ok(()));
-    assert_eq!(rt; quiet.file("a"), Some(&b"w"[..]));
-    assert!(rt; quiet.is_whole());
+    let reads = [
+        ("a", 3, Ok(Some(3))),
+        ("a", 3, Err(FolderRefusal::Failed)),
+        ("a", 2, Err(FolderRefusal::TooLong { limit: 2 })),
+        ("b", 2, Ok(None)),
+    ];
+    for (name, limit, want) in reads {
+        assert_eq!(rt; file_len(&mut folder, alloc, name, limit), want);
+    }
     assert_eq!(rt;
         DirFolder::new(rt).read(alloc, "there is no such file", 2),
         Ok(None)
     );
+    Ok(())
+}
+
+#[test]
+fn writes(rt: HostRuntime) -> Result<(), Fail> {
+    let alloc = rt.alloc();
+    let mut folder = QuietFolder::new(alloc, one_file(alloc)?)?;
+    assert_eq!(rt; folder.write("b", b"w"), Ok(()));
+    assert_eq!(rt; folder.write("a", b""), Ok(()));
+    assert_eq!(rt; folder.file("b"), Some(b"w".as_slice()));
+    assert_eq!(rt; folder.file("a"), Some(b"".as_slice()));
     Ok(())
 }

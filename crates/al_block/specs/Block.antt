@@ -7,7 +7,8 @@ use Rattle.al_msgpack.specs.declared.fault.DecodeFault.{DecodeFault}
 use Rattle.al_msgpack.specs.Places.{IsSpelling, Means}
 use Rattle.al_record.specs.declared.fault.Fault.{Fault}
 use Rattle.al_record.specs.declared.fault.Fault.TheVariants.{Field, Range}
-use Rattle.al_record.specs.Columns.{FieldOf, Format, record_field, records_field, table, member_open, first_of, unless_range}
+use Rattle.al_record.specs.declared.fault.ReadError.{ReadError}
+use Rattle.al_record.specs.Columns.{FieldOf, Fails, Format, record_field, records_field, table, member_open, first_of, unless_range}
 use Rattle.al_txn.specs.Item.{item}
 use Rattle.al_block.specs.declared.block.Block.{Block}
 use Rattle.al_block.specs.declared.decoding.BlockFault.{BlockFault}
@@ -30,6 +31,11 @@ most_bytes = 5242880
 -- The first fault of a value that should be a block, and is spelled in so many bytes: the record's own, and then its length.
 abbrev pub block_fault : ℕ → Val → Option Fault
 block_fault size v = first_of (member_open block.fault (out-Val v)) (unless_range (nat_le size most_bytes) (codes "t"))
+
+-- the answer for a value that is spelled in so many bytes, unless memory ran out
+abbrev pub ReadsSized : ℕ → Val → Result Block ReadError → Type 0
+ReadsSized size v (Ok b) = (values.Map (block.write b) ≡ v) × (block_fault size v ≡ None)
+ReadsSized size v (Err e) = Fails e (block_fault size v)
 
 -- the input spells the record of the block
 pub record IsBlock (input : List ℕ) (b : Block) : Type 0 where
@@ -57,3 +63,15 @@ BlockMeansUnless input (Err (faults.Decode f)) = Means input (Err f)
 BlockMeansUnless input (Err (faults.Field name)) = IsFaulty input (Field name)
 BlockMeansUnless input (Err (faults.Range name)) = IsFaulty input (Range name)
 BlockMeansUnless input (Err faults.Memory) = Unit {0}
+
+-- what is right is answered, unless memory ran out
+abbrev pub BlockAnswers : Result Block BlockFault → Result Block BlockFault → Type 0
+BlockAnswers (Err faults.Memory) r = Unit {0}
+BlockAnswers (Ok b) r = r ≡ Ok b
+BlockAnswers (Err (faults.Decode f)) r = r ≡ Err (faults.Decode f)
+BlockAnswers (Err (faults.Field name)) r = r ≡ Err (faults.Field name)
+BlockAnswers (Err (faults.Range name)) r = r ≡ Err (faults.Range name)
+
+-- bytes spell at most one block
+abbrev pub SpellsOneBlock : Type 0
+SpellsOneBlock = (input : List ℕ) (a b : Block) → IsBlock input a → IsBlock input b → a ≡ b

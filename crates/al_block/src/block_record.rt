@@ -5,8 +5,10 @@ ghost use Rattle.al_record.specs.Canonical.{are_canonical};
 use crate::Block;
 use crate::header_record::{header_entries, read_header};
 use al_msgpack::{Entries, Entry};
-use al_record::{Column, ReadError, Record, Shape};
-use al_record::{check_fields, list, list_of_all, map, put_list, put_map, read_all};
+use al_record::{
+    Column, ReadError, Record, Shape, check_fields, list, list_of_all, map, put_list, put_map,
+    read_all,
+};
 use al_txn::Item;
 use std::alloc::{AllocError, Global};
 

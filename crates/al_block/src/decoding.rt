@@ -1,8 +1,11 @@
 //! Blocks from bytes, and bytes of blocks.
-ghost use Rattle.std.specs.Prelude.{◌≡◌, ◌++◌, ◌<◌, ◌^◌, length, OnOk};
+ghost use Rattle.std.specs.Prelude.{◌≡◌, ◌++◌, ◌<◌, ◌^◌, ℕ, List, Result, length, IsTrue, OnOk};
 ghost use Rattle.al_msgpack.specs.declared.val.Val.TheVariants as values;
+ghost use Rattle.al_msgpack.specs.Rising.{canonical};
 ghost use Rattle.al_msgpack.specs.Spelled.{spelled};
-ghost use Rattle.al_block.specs.Block.{block, BlockMeansUnless};
+ghost use Rattle.al_block.specs.Block.{block, BlockAnswers, BlockMeans, BlockMeansUnless, IsBlock, ReadsSized};
+ghost use Rattle.al_block.specs.declared.block.Block.{Block};
+ghost use Rattle.al_block.specs.declared.decoding.BlockFault.{BlockFault};
 
 use crate::Block;
 use al_base::Bytes;
@@ -27,8 +30,20 @@ pub enum BlockFault {
 }
 
 /// The block whose record the input spells, or the first fault: of the spelling, then of the
-/// record, then `Range` of `t` where the spelling has more than 5,242,880 bytes.
+/// record, then `Range` of `t` where the spelling has more than 5,242,880 bytes. An absent header
+/// reads as the empty map.
 pub fn decode_block(alloc: Global, input: &[u8]) -> Result<Block, BlockFault>
+    requires { length input.now < 2 ^ 31 }
+    // Each answer is right, by the format alone.
+    ensures right { BlockMeansUnless input.now result }
+    // What is right is answered, unless memory runs out.
+    ensures only { (r : Result Block BlockFault) → BlockMeans input.now r → BlockAnswers result r }
+{
+    judge(alloc, input)
+}
+
+/// The verdict on an input.
+fn judge(alloc: Global, input: &[u8]) -> Result<Block, BlockFault>
     requires { length input.now < 2 ^ 31 }
     ensures { BlockMeansUnless input.now result }
 {
@@ -43,4 +58,30 @@ pub fn decode_block(alloc: Global, input: &[u8]) -> Result<Block, BlockFault>
         Err(ReadError::Fault(Fault::Range { name })) => Err(BlockFault::Range { name }),
         Err(ReadError::Memory) => Err(BlockFault::Memory),
     }
+}
+
+/// The block of a value that is spelled in so many bytes.
+fn read_sized(alloc: Global, v: &Val, size: usize) -> Result<Block, ReadError>
+    requires { IsTrue (canonical v.now) }
+    ensures { ReadsSized size v.now result }
+{
+    let block = read_member::<Block>(alloc, v)?;
+    if size > MOST_BYTES {
+        return Err(range(alloc, "t"));
+    }
+    Ok(block)
+}
+
+/// Appends the spelling of a block's record: the very bytes that it was decoded from.
+pub fn encode_block(alloc: Global, b: &Block, out: &mut Vec<u8>) -> Result<(), AllocError>
+    ensures bytes { OnOk result (out.new.items ≡ out.old.items ++ spelled (values.Map (block.write b.now))) }
+    ensures back { (input : List ℕ) → IsBlock input b.now → OnOk result (out.new.items ≡ out.old.items ++ input) }
+{
+    append(alloc, b, out)
+}
+
+fn append(alloc: Global, b: &Block, out: &mut Vec<u8>) -> Result<(), AllocError>
+    ensures { OnOk result (out.new.items ≡ out.old.items ++ spelled (values.Map (block.write b.now))) }
+{
+    write(&Val::Map(b.entries(alloc)?), out)
 }

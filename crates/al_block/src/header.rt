@@ -1,5 +1,8 @@
 //! The header of a block.
+ghost use Rattle.std.specs.Prelude.{◌≡◌, IfOk};
+
 use al_base::{Address, Addresses, Hash};
+use std::alloc::{AllocError, Global};
 
 /// The header of a block.
 #[derive(Debug, Drop)]
@@ -30,6 +33,29 @@ pub struct Header {
     pub payset: Hash,
     /// The accounts whose keys have expired.
     pub expired: Addresses,
+}
+
+impl Header {
+    /// An equal header.
+    pub fn copy(&self, alloc: Global) -> Result<Header, AllocError>
+        ensures { IfOk result (λ h. h ≡ self.now) }
+    {
+        Ok(Header {
+            round: self.round,
+            prev: self.prev,
+            ts: self.ts,
+            genesis_hash: self.genesis_hash,
+            sink: self.sink,
+            pool: self.pool,
+            level: self.level,
+            rate: self.rate,
+            residue: self.residue,
+            recalc: self.recalc,
+            counter: self.counter,
+            payset: self.payset,
+            expired: self.expired.copy(alloc)?,
+        })
+    }
 }
 
 /// A field of a header.

@@ -7,8 +7,9 @@ ghost use Rattle.al_block.specs.Header.{header};
 use crate::Header;
 use al_base::Address;
 use al_msgpack::{Entries, Entry};
-use al_record::{COUNT, Column, Content, HASH, ReadError, Shape};
-use al_record::{addresses, array, check, listed, number};
+use al_record::{
+    COUNT, Column, Content, HASH, ReadError, Shape, addresses, array, check, listed, number,
+};
 use std::alloc::{AllocError, Global};
 
 const HEADER: [Column; 13] = [

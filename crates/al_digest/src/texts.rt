@@ -1,5 +1,5 @@
 //! The texts of digests and addresses.
-ghost use Rattle.std.specs.Prelude.{◌≡◌, ◌++◌, ℕ, List, take, Ok};
+ghost use Rattle.std.specs.Prelude.{◌≡◌, ◌++◌, ℕ, List, take, Ok, IfOk};
 ghost use Rattle.al_base.specs.declared.address.Address.{Address};
 ghost use Rattle.al_digest.specs.Texts.{hash_text_of, address_text_of, check_of, ReadsHash, ReadsAddress, AreBytes};
 
@@ -32,6 +32,7 @@ pub fn hash_text(hash: &Hash) -> [u8; 52]
 /// The digest whose text this is.
 pub fn parse_hash(text: &[u8]) -> Result<Hash, TextFault>
     ensures reads { ReadsHash text.now result }
+    ensures bytes { IfOk result (AreBytes 32) }
     ensures text { (hash : List ℕ) → AreBytes 32 hash → text.now ≡ hash_text_of hash → result ≡ Ok hash }
 {
     if text.len() != 52 {
@@ -54,6 +55,7 @@ pub fn address_text(address: &Address) -> [u8; 58]
 /// The address whose text this is.
 pub fn parse_address(text: &[u8]) -> Result<Address, TextFault>
     ensures reads { ReadsAddress text.now result }
+    ensures bytes { IfOk result (λ a. AreBytes 32 a.0) }
     ensures text { (address : Address) → AreBytes 32 address.0 → text.now ≡ address_text_of address → result ≡ Ok address }
 {
     if text.len() != 58 {

@@ -1,2 +1,5 @@
 pub mod Places
 pub mod Meaning
+pub mod Ends
+pub mod Nexts
+pub mod Chains

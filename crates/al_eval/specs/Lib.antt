@@ -1,1 +1,5 @@
 pub mod Genesis
+pub mod Past
+pub mod Steps
+pub mod Next
+pub mod State

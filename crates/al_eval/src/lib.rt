@@ -1,12 +1,25 @@
-//! The genesis of a chain.
+//! The genesis of a chain, and the step of a block over rows.
 #![tactic(auto)]
 
+mod before;
 mod genesis;
 mod genesis_checks;
 mod genesis_fields;
 mod genesis_record;
+mod header;
+mod laws;
+mod lent;
+mod next;
+mod run;
+mod tail;
+mod transact;
 
+pub use before::{Before, EvalRefusal, RoundDelta};
 pub use genesis::{Genesis, GenesisFault, GenesisRow, GenesisRows};
+pub use laws::{changes_lead, step_is_fair};
+pub use next::step_rows;
+pub use run::eval;
+pub use tail::{Entry, Tail};
 
 #[cfg(test)]
 mod genesis_tests;

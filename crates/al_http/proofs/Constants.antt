@@ -3,7 +3,7 @@ use Rattle.std.proofs.Common.{◌≡◌, ℕ, List, ◌++◌, codes, decimal, re
 use Rattle.std.specs.Fmt.{digits}
 use Rattle.json.specs.Print.{escape_byte}
 use Rattle.serde_json.specs.Written.{compact_text}
-use Rattle.al_http.specs.Answers.{line_end, head_of, rest_of, body_of, answer_text, memory_answer, not_built_answer, phrase_of, error_text}
+use Rattle.al_http.specs.Answers.{line_end, rest_of, body_of, answer_text, memory_answer, not_built_answer, phrase_of, error_text}
 
 five_hundred_seven : decimal 507 ≡ codes "507"
 unfolding digits

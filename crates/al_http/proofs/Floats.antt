@@ -1,5 +1,5 @@
 -- No answer shows a float.
-use Rattle.std.proofs.Common.{◌≡◌, ℕ, Bool, true, false, ◌||◌, ◌==◌, if◌then◌else◌, List, [], ◌∷◌, codes, refl, subst, sym, ap, Option, Some, None}
+use Rattle.std.proofs.Common.{◌≡◌, ℕ, Bool, true, false, ◌||◌, ◌==◌, if◌then◌else◌, List, [], ◌∷◌, codes, refl, Option, Some, None}
 use Rattle.std.specs.Ordering.{nat_cmp, match_ordering}
 use Rattle.std.specs.declared.cmp.Ordering.TheVariants.{Less, Equal, Greater}
 use Rattle.std.specs.Cmp.Lexicographic.{slice_cmp}
@@ -15,7 +15,7 @@ use Rattle.al_http.specs.declared.answer.Answer.{Answer}
 use Rattle.al_http.specs.declared.answer.Answer.TheVariants as answers
 use Rattle.al_http.specs.declared.answer.ErrorName.{ErrorName}
 use Rattle.al_http.specs.declared.answer.More.{More}
-use Rattle.al_http.specs.Answers.{Shown, put_some, put_all, whole, unless_zero, text, is_all_zero, unless_nobody, created, boxed, owned, standing, voting, vote_of, account_members, pending_of, field_text, shown_by, places, reasons, named, refused_members, error_text, rounds, body_of}
+use Rattle.al_http.specs.Answers.{Shown, put_some, put_all, whole, unless_zero, text, is_all_zero, unless_nobody, created, boxed, owned, standing, vote_of, account_members, pending_of, field_text, shown_by, places, reasons, named, refused_members, error_text, rounds, body_of}
 
 or_false : (a b : Bool) → a ≡ false → b ≡ false → (a || b) ≡ false
 or_false true b p q = p

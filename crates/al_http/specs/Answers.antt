@@ -1,5 +1,5 @@
 -- The bytes of answers: a status line, two fields, and one JSON object (RFC 8259) without white space, its keys in byte order.
-use Rattle.std.specs.Prelude.{ℕ, Bool, ◌==◌, ◌≤◌, List, [], ◌∷◌, ◌++◌, length, decimal, codes, if◌then◌else◌, map}
+use Rattle.std.specs.Prelude.{ℕ, Bool, ◌==◌, List, [], ◌∷◌, ◌++◌, length, decimal, codes, if◌then◌else◌}
 use Rattle.std.specs.declared.option.Option.{Option}
 use Rattle.std.specs.declared.option.Option.TheVariants.{None, Some}
 use Rattle.std.specs.List.{list_all}
@@ -12,7 +12,6 @@ use Rattle.al_base.specs.declared.address.Address.{Address}
 use Rattle.al_digest.specs.Texts.{hash_text_of, address_text_of}
 use Rattle.al_block.specs.declared.header.Field.{Field}
 use Rattle.al_block.specs.declared.header.Field.TheVariants as fields
-use Rattle.al_rewards.specs.declared.share.Share.{Share}
 use Rattle.al_rewards.specs.Pending.{pending}
 use Rattle.al_rows.specs.declared.account.AccountRow.{AccountRow}
 use Rattle.al_rows.specs.Rows.{CountsInRange, min_balance}

@@ -3,6 +3,7 @@ ghost use Rattle.std.specs.Prelude.{◌≡◌, codes, OnOk, Some, false, Option}
 ghost use Rattle.serde_json.specs.View.{view, members_view};
 ghost use Rattle.serde_json.specs.Data.{number, unsigned, string, object};
 ghost use Rattle.al_digest.specs.Texts.{address_text_of, hash_text_of};
+ghost use Rattle.std.specs.Str.{IsUtf8};
 ghost use Rattle.hex.specs.Hex.{encode_lower};
 ghost use Rattle.al_http.specs.Answers.{put_some, unless_zero, number_shown, text, whole};
 
@@ -66,18 +67,19 @@ pub(crate) fn put_text(
     put(map, alloc, key, value)
 }
 
-// Puts a text of letters and digits, which are always UTF-8.
+// Puts a text of UTF-8.
 fn put_letters(
     alloc: Global,
     map: &mut Map<String, Value>,
     key: &str,
     letters: &[u8],
 ) -> Result<(), AllocError>
+    requires { IsUtf8 letters.now }
     ensures { OnOk result (members_view map.new.entries ≡ put_some key.now (text letters.now) (members_view map.old.entries)) }
 {
     match str::from_utf8(letters) {
         Ok(words) => put_text(alloc, map, key, words),
-        Err(_) => Err(AllocError),
+        Err(_) => unreachable!(),
     }
 }
 

@@ -24,7 +24,7 @@ pub fn check_fields(alloc: Global, entries: &[Entry], columns: &[Column]) -> Res
     Ok(())
 }
 
-/// An entry of a known name and its family, not zero.
+/// A field of the table, of its family and not zero.
 pub fn fitting(e: &Entry, columns: &[Column]) -> bool
     ensures { result ≡ fitting (heads (table_of columns.now)) e.now }
 {

@@ -41,7 +41,7 @@ pub fn read_all<R: Record>(alloc: Global, vals: &[Val]) -> Result<Items<R>, Read
     Ok(out)
 }
 
-/// The value of one member, or its first fault.
+/// The value of one record, or its first fault.
 pub fn read_member<R: Record>(alloc: Global, v: &Val) -> Result<R, ReadError>
     requires { IsTrue (canonical v.now) }
     ensures { ReadsOne R.format v.now result }

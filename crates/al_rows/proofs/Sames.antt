@@ -168,6 +168,7 @@ local_true l m h0 =
     }
 
 pub row_true : (r s : Row) → row_eq r s ≡ true → r ≡ s
+unfolding row_eq
 row_true (row.Account r) (row.Account s) h = ap row.Account (account_true r s h)
 row_true (row.Account r) (row.Asset s) h = cc
 row_true (row.Account r) (row.App s) h = cc
@@ -234,6 +235,7 @@ local_itself : (l : Local) → local_eq l l ≡ true
 local_itself l = and_true _ _ (nat_itself l.uints) (and_true _ _ (nat_itself l.slices) (list_itself l.state))
 
 pub row_itself : (r : Row) → row_eq r r ≡ true
+unfolding row_eq
 row_itself (row.Account r) = account_itself r
 row_itself (row.Asset a) = and_true _ _ (option_itself asset_params_eq asset_params_itself a.params) (option_itself holding_eq holding_itself a.holding)
 row_itself (row.App a) = and_true _ _ (option_itself app_params_eq app_params_itself a.params) (option_itself local_eq local_itself a.local)
@@ -284,6 +286,7 @@ app_tests : (a b : AppRow) → (app.eq-value).it a b ≡ (both_or_none app_param
 app_tests a b = λ i. both_or_none (λ p q. app_params_tests p q i) a.params b.params && both_or_none (λ h k. local_tests h k i) a.local b.local
 
 pub row_tests : (r s : Row) → (derived.eq-value).it r s ≡ row_eq r s
+unfolding row_eq
 row_tests (row.Account r) (row.Account s) = account_tests r s
 row_tests (row.Account r) (row.Asset s) = refl
 row_tests (row.Account r) (row.App s) = refl

@@ -118,7 +118,7 @@ local_eq l m =
     all_true (nat_eq l.uints m.uints ∷ nat_eq l.slices m.slices ∷ same_bytes l.state m.state ∷ [])
 
 -- whether two rows are the same
-abbrev pub row_eq : Row → Row → Bool
+unfoldable pub row_eq : Row → Row → Bool
 row_eq (row.Account r) (row.Account s) = account_eq r s
 row_eq (row.Asset a) (row.Asset b) = both_or_none asset_params_eq a.params b.params && both_or_none holding_eq a.holding b.holding
 row_eq (row.App a) (row.App b) = both_or_none app_params_eq a.params b.params && both_or_none local_eq a.local b.local

@@ -1,18 +1,20 @@
 -- Kept fields and the others are the whole.
-use Rattle.std.proofs.Common.{◌≡◌, ℕ, zero, suc, Bool, true, false, not, List, [], ◌∷◌, ◌++◌, take, drop, map, refl, sym, ap, ap₂, ◌∙◌, subst, inl, inr}
+use Rattle.std.proofs.Common.{◌≡◌, ℕ, zero, suc, Bool, true, false, not, List, [], ◌∷◌, ◌++◌, take, drop, Option, Some, None, refl, sym, ap, ap₂, ◌∙◌, subst, inl, inr}
 use Rattle.std.specs.List.{list_all}
 use Rattle.std.specs.Str.{bytes_eq}
 use Rattle.std.specs.Ordering.{is_lt, nat_cmp}
 use Rattle.std.specs.declared.cmp.Ordering.TheVariants.{Equal}
 use Rattle.std.specs.Cmp.Lexicographic.{slice_cmp}
 use Rattle.std.proofs.lemmas.Bool.{and_parts, and_from, cases_Bool, false_from_ne_true}
+use Rattle.std.proofs.lemmas.List.{take-append-drop}
 use Rattle.std.proofs.lemmas.Cmp.{nat_list_cmp_total, tied_itself}
+use Rattle.al_msgpack.specs.declared.val.Val.{Val}
 use Rattle.al_msgpack.specs.declared.val.Entry.{Entry}
 use Rattle.al_msgpack.specs.Rising.{rises, keys, canonical, are_canonical}
-use Rattle.al_record.specs.Columns.{FieldOf, Rule, heads, rule, rules_of, value_at, range_fault, AllShown}
+use Rattle.al_record.specs.Columns.{FieldOf, Rule, heads, rule, rules_of, put, value_at, with_entry, entries, range_fault, AllShown}
 use Rattle.al_record.proofs.Order.{IsLess, IsBelow, Rising, rising, same_name, below_more}
 use Rattle.al_record.proofs.Engine.{names}
-use Rattle.al_txn.specs.Kept.{is_kept, kept, others, below, merged}
+use Rattle.al_txn.specs.Kept.{is_kept, are_kept, kept, others, below, merged}
 
 abbrev pub are_others : List (List ℕ) → Bool
 are_others ns = list_all (λ n. not (is_kept n)) ns
@@ -112,3 +114,76 @@ joined (e ∷ es) h = elim (cases_Bool (is_kept e.key)) [
 
 pub join : (es : List Entry) → are_canonical es ≡ true → merged (kept es) (others es) ≡ es
 join es h = joined es (rising _ (and_parts _ _ h).0)
+
+pub kept_only : (es : List Entry) → are_kept (kept es) ≡ true
+kept_only [] = refl
+kept_only (e ∷ es) = elim (cases_Bool (is_kept e.key)) [
+  | inl t ↦ rw t (and_from _ _ t (kept_only es))
+  | inr t ↦ rw t (kept_only es)
+]
+
+-- ---- what was merged comes apart again
+
+kept_append : (xs ys : List Entry) → kept (xs ++ ys) ≡ kept xs ++ kept ys
+kept_append [] ys = refl
+kept_append (e ∷ xs) ys = elim (cases_Bool (is_kept e.key)) [
+  | inl t ↦ rw (t, kept_append xs ys) refl
+  | inr t ↦ rw (t, kept_append xs ys) refl
+]
+
+others_append : (xs ys : List Entry) → others (xs ++ ys) ≡ others xs ++ others ys
+others_append [] ys = refl
+others_append (e ∷ xs) ys = elim (cases_Bool (is_kept e.key)) [
+  | inl t ↦ rw (t, others_append xs ys) refl
+  | inr t ↦ rw (t, others_append xs ys) refl
+]
+
+kept_all : (ks : List Entry) → are_kept ks ≡ true → kept ks ≡ ks
+kept_all [] h = refl
+kept_all (e ∷ ks) h =
+    let p = and_parts (is_kept e.key) (are_kept ks) h in
+    rw (p.0, kept_all ks p.1) refl
+
+others_none : (ks : List Entry) → are_kept ks ≡ true → others ks ≡ []
+others_none [] h = refl
+others_none (e ∷ ks) h =
+    let p = and_parts (is_kept e.key) (are_kept ks) h in
+    rw (p.0, others_none ks p.1) refl
+
+kept_front : (n : ℕ) (ks : List Entry) → are_kept ks ≡ true → are_kept (take n ks) ≡ true
+kept_front zero ks h = refl
+kept_front (suc n) [] h = refl
+kept_front (suc n) (e ∷ ks) h = let p = and_parts _ _ h in and_from _ _ p.0 (kept_front n ks p.1)
+
+kept_behind : (n : ℕ) (ks : List Entry) → are_kept ks ≡ true → are_kept (drop n ks) ≡ true
+kept_behind zero ks h = h
+kept_behind (suc n) [] h = refl
+kept_behind (suc n) (e ∷ ks) h = kept_behind n ks (and_parts _ _ h).1
+
+pub kept_merged : (ks os : List Entry) → are_kept ks ≡ true → are_others (keys os) ≡ true → kept (merged ks os) ≡ ks
+kept_merged ks [] h q = kept_all ks h
+kept_merged ks (o ∷ os) h q =
+    let p = and_parts _ _ q in
+    let n = below o.key ks in
+    let front = kept_all (take n ks) (kept_front n ks h) in
+    let behind = kept_merged (drop n ks) os (kept_behind n ks h) p.1 in
+    kept_append (take n ks) (o ∷ merged (drop n ks) os) ∙ rw (front, not_true _ p.0, behind) (take-append-drop n ks)
+
+pub others_merged : (ks os : List Entry) → are_kept ks ≡ true → are_others (keys os) ≡ true → others (merged ks os) ≡ os
+others_merged ks [] h q = others_none ks h
+others_merged ks (o ∷ os) h q =
+    let p = and_parts _ _ q in
+    let n = below o.key ks in
+    let front = others_none (take n ks) (kept_front n ks h) in
+    let behind = others_merged (drop n ks) os (kept_behind n ks h) p.1 in
+    others_append (take n ks) (o ∷ merged (drop n ks) os) ∙ rw (front, not_true _ p.0, behind) refl
+
+entry_other : (name : List ℕ) (o : Option Val) (rest : List Entry) → is_kept name ≡ false → are_others (keys rest) ≡ true → are_others (keys (with_entry name o rest)) ≡ true
+entry_other name None rest h r = r
+entry_other name (Some v) rest h r = and_from _ _ (rw h refl) r
+
+pub entries_others : {X : Type 0} (fs : List (FieldOf X)) (x : X) → are_others (names (heads (rules_of fs))) ≡ true → are_others (keys (entries fs x)) ≡ true
+entries_others [] x h = refl
+entries_others (f ∷ fs) x h =
+    let p = and_parts _ _ h in
+    entry_other (rule f).name (put f x) (entries fs x) (not_true _ p.0) (entries_others fs x p.1)

@@ -1,2 +1,7 @@
-pub mod Exits
 pub mod Apart
+pub mod Exits
+pub mod Members
+pub mod Names
+pub mod Same
+pub mod SameItem
+pub mod Written

@@ -1,5 +1,5 @@
 -- Effects of calls of applications.
-use Rattle.std.specs.Prelude.{◌==◌, ◌≡◌, ℕ, codes, List, [], ◌∷◌, Option, Some, None, Result, Ok, Err, if◌then◌else◌}
+use Rattle.std.specs.Prelude.{◌==◌, ◌≡◌, ℕ, codes, length, List, [], ◌∷◌, Option, Some, None, Result, Ok, Err, if◌then◌else◌}
 use Rattle.std.specs.Str.{bytes_eq}
 use Rattle.al_msgpack.specs.declared.val.Entry.{Entry}
 use Rattle.al_base.specs.Name.{name_of}
@@ -79,6 +79,10 @@ set_local = by_name (
     bytes (codes "st") 0 8192 (λ s. s.1) ∷
     [])
 
+-- The bytes of a box's name. In a specification its array may have any length, and only one of 64 bytes is a name.
+abbrev pub whole_name : BoxName → List ℕ
+whole_name n = if length n.bytes == 64 then name_of n else []
+
 -- a box and its value
 abbrev pub put_box : List (FieldOf (List ℕ × List ℕ))
 put_box =
@@ -119,8 +123,8 @@ effect_written effects.Remove = entries (bare 3) tt
 effect_written (effects.OptIn state) = entries (with_state 4) state
 effect_written (effects.SetLocal who state) = entries set_local (who.0, state)
 effect_written effects.OptOut = entries (bare 6) tt
-effect_written (effects.PutBox name value) = entries put_box (name_of name, value)
-effect_written (effects.RemoveBox name) = entries remove_box (name_of name)
+effect_written (effects.PutBox name value) = entries put_box (whole_name name, value)
+effect_written (effects.RemoveBox name) = entries remove_box (whole_name name)
 effect_written (effects.Inner t) = entries inner_effect t
 
 abbrev pub effect : Format Effect

@@ -1,6 +1,6 @@
 -- The fields of an application's call that are kept as they stand.
 use Rattle.std.specs.Prelude.{◌&&◌, ◌||◌, ◌==◌, ◌++◌, ℕ, suc, Bool, not, codes, take, drop, List, [], ◌∷◌, if◌then◌else◌}
-use Rattle.std.specs.List.{starts_with}
+use Rattle.std.specs.List.{list_all, starts_with}
 use Rattle.std.specs.Str.{bytes_eq}
 use Rattle.std.specs.Ordering.{is_lt, nat_cmp}
 use Rattle.std.specs.Cmp.Lexicographic.{slice_cmp}
@@ -9,6 +9,9 @@ use Rattle.al_msgpack.specs.declared.val.Entry.{Entry}
 -- `al`, or begins with `ap`, but neither `apar` nor the application's own number
 abbrev pub is_kept : List ℕ → Bool
 is_kept name = bytes_eq name (codes "al") || (starts_with ◌==◌ name (codes "ap") && (not (bytes_eq name (codes "apar")) && not (bytes_eq name (codes "apid"))))
+
+abbrev pub are_kept : List Entry → Bool
+are_kept es = list_all (λ e. is_kept e.key) es
 
 abbrev pub kept : List Entry → List Entry
 kept [] = []

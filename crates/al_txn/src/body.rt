@@ -1,4 +1,7 @@
 //! What a transaction does, by its type.
+ghost use Rattle.std.specs.Prelude.{IsTrue};
+ghost use Rattle.al_txn.specs.Kept.{are_kept};
+
 use al_base::{Address, AssetParams, Hash};
 use al_msgpack::Entries;
 
@@ -74,6 +77,7 @@ pub struct AppCall {
     pub app: u64,
     /// The other application fields, as they stand.
     pub rest: Entries,
+    ghost kept: { IsTrue (are_kept rest) },
 }
 
 /// What a transaction does.

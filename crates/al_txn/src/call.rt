@@ -12,8 +12,10 @@ use crate::kept::{is_kept, kept, merged};
 use crate::{AppCall, Body, Txn};
 use al_base::Hash;
 use al_msgpack::{Entries, Entry};
-use al_record::{ANY_BYTES, Column, Content, Fault, HASH, ReadError, Shape};
-use al_record::{check_ranges, fitting, listed, number};
+use al_record::{
+    ANY_BYTES, Column, Content, Fault, HASH, ReadError, Shape, check_ranges, fitting, listed,
+    number,
+};
 use std::alloc::{AllocError, Global};
 
 const CALL: [Column; 12] = [
@@ -65,7 +67,12 @@ fn check_others(alloc: Global, entries: &[Entry]) -> Result<(), ReadError>
 }
 
 /// The record of a transaction of this type, with this group.
-pub fn call_entries<'a>(alloc: Global, t: &'a Txn, group: &'a Hash, a: &'a AppCall) -> Result<Entries, AllocError>
+pub fn call_entries<'a>(
+    alloc: Global,
+    t: &'a Txn,
+    group: &'a Hash,
+    a: &'a AppCall,
+) -> Result<Entries, AllocError>
     ensures { IfOk result (λ es. es ≡ merged a.now.rest (entries appl_txn (with_group group.now t.now, a.now))) }
 {
     let flat = flat_entries(alloc, t, group, a.app)?;
@@ -73,7 +80,12 @@ pub fn call_entries<'a>(alloc: Global, t: &'a Txn, group: &'a Hash, a: &'a AppCa
 }
 
 /// The fields that are not kept.
-fn flat_entries<'a>(alloc: Global, t: &'a Txn, group: &'a Hash, app: u64) -> Result<Entries, AllocError>
+fn flat_entries<'a>(
+    alloc: Global,
+    t: &'a Txn,
+    group: &'a Hash,
+    app: u64,
+) -> Result<Entries, AllocError>
     ensures { IfOk result (λ es. es ≡ entries flat_appl (with_group group.now t.now, app)) }
 {
     listed(

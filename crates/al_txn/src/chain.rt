@@ -1,7 +1,8 @@
 //! What is fixed of a chain from its genesis on.
-ghost use Rattle.std.specs.Prelude.{◌≤◌, ◌^◌};
+ghost use Rattle.std.specs.Prelude.{◌≡◌, ◌≤◌, ◌^◌, IfOk};
 
 use al_base::{Bytes, Hash, Special};
+use std::alloc::{AllocError, Global};
 
 /// What is fixed of a chain from its genesis on.
 #[derive(Debug, Drop)]
@@ -19,4 +20,19 @@ pub struct Chain {
     ghost interval_some: { 1 ≤ interval },
     ghost interval_most: { interval ≤ 2 ^ 62 },
     ghost catch_interval_most: { catch_interval ≤ 2 ^ 62 },
+}
+
+impl Chain {
+    /// An equal value.
+    pub fn copy(&self, alloc: Global) -> Result<Chain, AllocError>
+        ensures { IfOk result (λ c. c ≡ self.now) }
+    {
+        Ok(Chain {
+            special: self.special,
+            hash: self.hash,
+            id: self.id.copy(alloc)?,
+            interval: self.interval,
+            catch_interval: self.catch_interval,
+        })
+    }
 }

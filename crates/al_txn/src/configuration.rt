@@ -9,8 +9,10 @@ use crate::common::common;
 use crate::{Body, Config, Txn};
 use al_base::{Address, AssetParams, Hash};
 use al_msgpack::{Entries, Entry};
-use al_record::{ANY_BYTES, Column, Content, HASH, ReadError, Shape};
-use al_record::{array, check, check_fields, check_ranges, flag, listed, map, number, put_map, text};
+use al_record::{
+    ANY_BYTES, Column, Content, HASH, ReadError, Shape, array, check, check_fields, check_ranges,
+    flag, listed, map, number, put_map, text,
+};
 use std::alloc::{AllocError, Global};
 
 const PARAMS: [Column; 11] = [
@@ -102,7 +104,12 @@ pub fn read_config(alloc: Global, entries: &[Entry]) -> Result<Txn, ReadError>
 }
 
 /// The record of a transaction of this type, with this group.
-pub fn config_entries<'a>(alloc: Global, t: &'a Txn, group: &'a Hash, c: &'a Config) -> Result<Entries, AllocError>
+pub fn config_entries<'a>(
+    alloc: Global,
+    t: &'a Txn,
+    group: &'a Hash,
+    c: &'a Config,
+) -> Result<Entries, AllocError>
     ensures { IfOk result (λ es. es ≡ entries acfg_txn (with_group group.now t.now, c.now)) }
 {
     let mut out = Entries::new(alloc);
@@ -112,7 +119,12 @@ pub fn config_entries<'a>(alloc: Global, t: &'a Txn, group: &'a Hash, c: &'a Con
 }
 
 /// The fields after the parameters.
-fn flat_entries<'a>(alloc: Global, t: &'a Txn, group: &'a Hash, asset: u64) -> Result<Entries, AllocError>
+fn flat_entries<'a>(
+    alloc: Global,
+    t: &'a Txn,
+    group: &'a Hash,
+    asset: u64,
+) -> Result<Entries, AllocError>
     ensures { IfOk result (λ es. es ≡ entries flat_acfg (with_group group.now t.now, asset)) }
 {
     listed(

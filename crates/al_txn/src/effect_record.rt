@@ -1,18 +1,19 @@
 //! The records of effects.
-ghost use Rattle.std.specs.Prelude.{◌≡◌, IsTrue, IfOk, IfErr, None, Ok, codes};
-ghost use Rattle.al_base.specs.Name.{name_of};
-ghost use Rattle.al_record.specs.Columns.{Reads, Fails, bytes_of, entries, value_at};
+ghost use Rattle.std.specs.Prelude.{◌≡◌, ◌∷◌, [], IsTrue, IfOk, IfErr, None, Ok, codes, length};
+ghost use Rattle.al_record.specs.Columns.{Reads, Fails, bytes_of, bytes_put, entries, number_put, value_at};
+ghost use Rattle.al_record.specs.Code.{listed, table_of};
 ghost use Rattle.al_record.specs.Kinds.{number_kind};
 ghost use Rattle.al_record.specs.Canonical.{are_canonical};
-ghost use Rattle.al_txn.specs.Effect.{effect, name_fault, put_box, remove_box};
+ghost use Rattle.al_txn.specs.Effect.{effect, name_fault, put_box, remove_box, whole_name};
 
 use crate::Effect;
 use crate::inner::{inner_entries, read_inner};
 use al_base::{Address, BoxName, Bytes};
 use al_msgpack::{Entries, Entry};
-use al_record::{Column, Content, HASH, ReadError, Record, Shape};
-use al_record::{array, bytes, bytes_of, check, check_fields, check_ranges, find, listed, map};
-use al_record::{number, number_kind, put_map, range};
+use al_record::{
+    Column, Content, HASH, ReadError, Record, Shape, array, bytes, bytes_of, check, check_fields,
+    check_ranges, find, listed, map, number, number_kind, put_map, range,
+};
 use std::alloc::{AllocError, Global};
 
 const STATE: Shape = Shape::Bytes {
@@ -126,8 +127,9 @@ fn read_opt_out(alloc: Global, entries: &[Entry]) -> Result<Effect, ReadError>
 }
 
 /// The name of a box, of 1 to 64 bytes.
+#[tactic(auto, using(crate::proofs::Names::whole_is))]
 fn box_name(alloc: Global, entries: &[Entry]) -> Result<BoxName, ReadError>
-    ensures value { IfOk result (λ n. name_of n ≡ bytes_of (value_at (codes "n") entries.now)) }
+    ensures value { IfOk result (λ n. whole_name n ≡ bytes_of (value_at (codes "n") entries.now)) }
     ensures ok { IfOk result (λ _. name_fault entries.now ≡ None) }
     ensures err { IfErr result (λ e. Fails e (name_fault entries.now)) }
 {
@@ -212,20 +214,32 @@ impl Record for Effect {
                 ],
             ),
             Effect::SetState { state } => {
-                listed(alloc, &WITH_STATE, &[Content::Number(2), Content::Bytes(state)])
+                listed(
+                    alloc,
+                    &WITH_STATE,
+                    &[Content::Number(2), Content::Bytes(state)],
+                )
             }
             Effect::Remove => listed(alloc, &BARE, &[Content::Number(3)]),
             Effect::OptIn { state } => {
-                listed(alloc, &WITH_STATE, &[Content::Number(4), Content::Bytes(state)])
+                listed(
+                    alloc,
+                    &WITH_STATE,
+                    &[Content::Number(4), Content::Bytes(state)],
+                )
             }
             Effect::SetLocal { who, state } => listed(
                 alloc,
                 &SET_LOCAL,
-                &[Content::Array(&who.0), Content::Number(5), Content::Bytes(state)],
+                &[
+                    Content::Array(&who.0),
+                    Content::Number(5),
+                    Content::Bytes(state),
+                ],
             ),
             Effect::OptOut => listed(alloc, &BARE, &[Content::Number(6)]),
-            Effect::PutBox { name, value } => put_box_entries(alloc, name, value),
-            Effect::RemoveBox { name } => remove_box_entries(alloc, name),
+            Effect::PutBox { name, value } => put_box_entries(alloc, *name, value),
+            Effect::RemoveBox { name } => remove_box_entries(alloc, *name),
             Effect::Inner(inner) => {
                 let mut out = listed(alloc, &INNER[..1], &[Content::Number(9)])?;
                 put_map(alloc, &mut out, "t", inner_entries(alloc, inner)?)?;
@@ -235,24 +249,35 @@ impl Record for Effect {
     }
 }
 
-fn put_box_entries(alloc: Global, name: &BoxName, value: &Bytes) -> Result<Entries, AllocError>
-    ensures { IfOk result (λ es. es ≡ entries put_box (name_of name.now, value.now)) }
+fn put_box_entries(alloc: Global, name: BoxName, value: &Bytes) -> Result<Entries, AllocError>
+    ensures { IfOk result (λ es. es ≡ entries put_box (whole_name name, value.now)) }
 {
-    let name = Bytes::of(alloc, name.as_slice())?;
-    listed(
-        alloc,
-        &PUT_BOX,
-        &[Content::Number(7), Content::Bytes(&name), Content::Bytes(value)],
-    )
+    let mut out = named_entries(alloc, &PUT_BOX[..2], 7, name)?;
+    out.append(listed(alloc, &PUT_BOX[2..], &[Content::Bytes(value)])?)?;
+    Ok(out)
 }
 
-fn remove_box_entries(alloc: Global, name: &BoxName) -> Result<Entries, AllocError>
-    ensures { IfOk result (λ es. es ≡ entries remove_box (name_of name.now)) }
+fn remove_box_entries(alloc: Global, name: BoxName) -> Result<Entries, AllocError>
+    ensures { IfOk result (λ es. es ≡ entries remove_box (whole_name name)) }
+{
+    named_entries(alloc, &REMOVE_BOX, 8, name)
+}
+
+/// The number of an effect and the name of a box.
+#[tactic(auto, using(crate::proofs::Names::whole_is))]
+fn named_entries(
+    alloc: Global,
+    columns: &[Column],
+    number: u64,
+    name: BoxName,
+) -> Result<Entries, AllocError>
+    requires { length columns.now ≡ 2 }
+    ensures { IfOk result (λ es. es ≡ listed (table_of columns.now) (number_put number ∷ bytes_put (whole_name name) ∷ [])) }
 {
     let name = Bytes::of(alloc, name.as_slice())?;
     listed(
         alloc,
-        &REMOVE_BOX,
-        &[Content::Number(8), Content::Bytes(&name)],
+        columns,
+        &[Content::Number(number), Content::Bytes(&name)],
     )
 }

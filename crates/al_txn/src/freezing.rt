@@ -9,7 +9,9 @@ use crate::common::common;
 use crate::{Body, Freeze, Txn};
 use al_base::{Address, Hash};
 use al_msgpack::{Entries, Entry};
-use al_record::{ANY_BYTES, Column, Content, HASH, ReadError, Shape, check, array, flag, listed, number};
+use al_record::{
+    ANY_BYTES, Column, Content, HASH, ReadError, Shape, array, check, flag, listed, number,
+};
 use std::alloc::{AllocError, Global};
 
 const FREEZE: [Column; 14] = [
@@ -52,7 +54,12 @@ pub fn freeze_of(entries: &[Entry]) -> Freeze
 }
 
 /// The record of a transaction of this type, with this group.
-pub fn freeze_entries<'a>(alloc: Global, t: &'a Txn, group: &'a Hash, f: &'a Freeze) -> Result<Entries, AllocError>
+pub fn freeze_entries<'a>(
+    alloc: Global,
+    t: &'a Txn,
+    group: &'a Hash,
+    f: &'a Freeze,
+) -> Result<Entries, AllocError>
     ensures { IfOk result (λ es. es ≡ entries afrz_txn (with_group group.now t.now, f.now)) }
 {
     listed(

@@ -8,9 +8,10 @@ use crate::record::{read_txn, txn_entries};
 use crate::{Effect, Item};
 use al_base::Bytes;
 use al_msgpack::{Entries, Entry, Val};
-use al_record::{Column, Fault, ReadError, Record, Shape};
-use al_record::{check_fields, field, find, list, list_of_all, map, put_list, put_map};
-use al_record::{range, read_all, read_member};
+use al_record::{
+    Column, Fault, ReadError, Record, Shape, check_fields, field, find, list, list_of_all, map,
+    put_list, put_map, range, read_all, read_member,
+};
 use std::alloc::{AllocError, Global};
 
 const ITEM: [Column; 2] = [Column("fx", Shape::List), Column("txn", Shape::Map)];

@@ -63,7 +63,7 @@ fn below(key: &[u8], entries: &[Entry]) -> usize
 fn is_below(a: &[u8], b: &[u8]) -> bool
     ensures { result ≡ is_lt (slice_cmp nat_cmp a.now b.now) }
 {
-    a < b
+    a.cmp(b).is_lt()
 }
 
 fn push_all(alloc: Global, out: &mut Entries, entries: &[Entry]) -> Result<(), AllocError>

@@ -9,7 +9,7 @@ use crate::common::common;
 use crate::{Body, Pay, Txn};
 use al_base::{Address, Hash};
 use al_msgpack::{Entries, Entry};
-use al_record::{ANY_BYTES, Column, Content, HASH, ReadError, Shape, check, array, listed, number};
+use al_record::{ANY_BYTES, Column, Content, HASH, ReadError, Shape, array, check, listed, number};
 use std::alloc::{AllocError, Global};
 
 const PAY: [Column; 14] = [
@@ -52,7 +52,12 @@ pub fn pay_of(entries: &[Entry]) -> Pay
 }
 
 /// The record of a transaction of this type, with this group.
-pub fn pay_entries<'a>(alloc: Global, t: &'a Txn, group: &'a Hash, p: &'a Pay) -> Result<Entries, AllocError>
+pub fn pay_entries<'a>(
+    alloc: Global,
+    t: &'a Txn,
+    group: &'a Hash,
+    p: &'a Pay,
+) -> Result<Entries, AllocError>
     ensures { IfOk result (λ es. es ≡ entries pay_txn (with_group group.now t.now, p.now)) }
 {
     listed(

@@ -51,7 +51,11 @@ pub fn txn_entries(alloc: Global, t: &Txn) -> Result<Entries, AllocError>
 }
 
 /// The record of a transaction, with this group in place of its own.
-pub fn entries_in_group<'a>(alloc: Global, t: &'a Txn, group: &'a Hash) -> Result<Entries, AllocError>
+pub fn entries_in_group<'a>(
+    alloc: Global,
+    t: &'a Txn,
+    group: &'a Hash,
+) -> Result<Entries, AllocError>
     ensures { IfOk result (λ es. es ≡ txn.write (with_group group.now t.now)) }
 {
     match &t.body {

@@ -9,7 +9,9 @@ use crate::common::common;
 use crate::{Body, KeyReg, Txn};
 use al_base::Hash;
 use al_msgpack::{Entries, Entry};
-use al_record::{ANY_BYTES, Column, Content, HASH, ReadError, Shape, check, array, flag, listed, number};
+use al_record::{
+    ANY_BYTES, Column, Content, HASH, ReadError, Shape, array, check, flag, listed, number,
+};
 use std::alloc::{AllocError, Global};
 
 const KEYREG: [Column; 18] = [
@@ -60,7 +62,12 @@ pub fn keyreg_of(entries: &[Entry]) -> KeyReg
 }
 
 /// The record of a transaction of this type, with this group.
-pub fn keyreg_entries<'a>(alloc: Global, t: &'a Txn, group: &'a Hash, k: &'a KeyReg) -> Result<Entries, AllocError>
+pub fn keyreg_entries<'a>(
+    alloc: Global,
+    t: &'a Txn,
+    group: &'a Hash,
+    k: &'a KeyReg,
+) -> Result<Entries, AllocError>
     ensures { IfOk result (λ es. es ≡ entries keyreg_txn (with_group group.now t.now, k.now)) }
 {
     listed(

@@ -6,10 +6,10 @@ ghost use Rattle.al_record.specs.Canonical.{are_canonical};
 ghost use Rattle.al_txn.specs.Txn.{txn, axfer, axfer_txn, with_group};
 
 use crate::common::common;
-use crate::{Body, AssetMove, Txn};
+use crate::{AssetMove, Body, Txn};
 use al_base::{Address, Hash};
 use al_msgpack::{Entries, Entry};
-use al_record::{ANY_BYTES, Column, Content, HASH, ReadError, Shape, check, array, listed, number};
+use al_record::{ANY_BYTES, Column, Content, HASH, ReadError, Shape, array, check, listed, number};
 use std::alloc::{AllocError, Global};
 
 const MOVE: [Column; 16] = [
@@ -56,7 +56,12 @@ pub fn move_of(entries: &[Entry]) -> AssetMove
 }
 
 /// The record of a transaction of this type, with this group.
-pub fn move_entries<'a>(alloc: Global, t: &'a Txn, group: &'a Hash, m: &'a AssetMove) -> Result<Entries, AllocError>
+pub fn move_entries<'a>(
+    alloc: Global,
+    t: &'a Txn,
+    group: &'a Hash,
+    m: &'a AssetMove,
+) -> Result<Entries, AllocError>
     ensures { IfOk result (λ es. es ≡ entries axfer_txn (with_group group.now t.now, m.now)) }
 {
     listed(

@@ -1,6 +1,5 @@
 use Rattle.std.proofs.Common.{◌≡◌, ◌<◌, ◌^◌, take, drop, rules, ap, ap₂, sym, ◌∙◌, Some, None, arith}
 use Rattle.al_base.specs.Keys.{number_bytes}
-use Rattle.al_base.specs.Name.{name_of}
 use Rattle.al_base.proofs.KeyLemmas.{as_box, number_bytes_same}
 use Rattle.al_base.specs.declared.key.Key.TheVariants.{Box}
 use Rattle.al_base.proofs.key.named_box.Goals as goal

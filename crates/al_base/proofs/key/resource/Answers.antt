@@ -1,8 +1,7 @@
-use Rattle.std.proofs.Common.{◌≡◌, ◌<◌, ◌++◌, ◌^◌, ◌∷◌, length, take, drop, rules, ap, ap₂, sym, ◌∙◌, Some, arith}
+use Rattle.std.proofs.Common.{◌≡◌, ◌<◌, ◌++◌, ◌^◌, ◌∷◌, length, take, drop, rules, ap, ap₂, sym, ◌∙◌, Some}
 use Rattle.std.proofs.lemmas.List.{take-append-drop}
 use Rattle.al_base.specs.Keys.{number_bytes}
 use Rattle.al_base.proofs.KeyLemmas.{as_resource, number_bytes_same}
-use Rattle.al_base.specs.declared.address.Address.{Address}
 use Rattle.al_base.specs.declared.key.Key.TheVariants.{Resource}
 use Rattle.al_base.proofs.key.resource.Goals as goal
 

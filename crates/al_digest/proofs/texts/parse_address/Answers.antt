@@ -15,11 +15,14 @@ returns-then-text-ne58-clause-text c = λ address h is. address_read c.args.text
 pub returns-in_err-decode-clause-text : goal.returns-in_err-decode-clause-text
 returns-in_err-decode-clause-text c = λ address h is. address_read c.args.text.now c.from_residual.result (search rules) (search rules) address h is
 
-pub returns-then-eq-clause-text : goal.returns-then-eq-clause-text
-returns-then-eq-clause-text c = λ address h is.
+pub returns-then-eq-clause-bytes : goal.returns-then-eq-clause-bytes
+returns-then-eq-clause-bytes c =
     let own : AreBytes 36 c.decode.new.bytes = (search rules, c.in_ok-decode.ensures.bytes) in
     let front : AreBytes 32 (take 32 c.decode.new.bytes) = (search rules, All-take (λ b. b < 256) 32 c.decode.new.bytes own.1) in
-    address_read c.args.text.now _ (search rules) (subst (AreBytes 32) (sym c.front-address.ensures) front) address h is
+    subst (AreBytes 32) (sym c.front-address.ensures) front
+
+pub returns-then-eq-clause-text : goal.returns-then-eq-clause-text
+returns-then-eq-clause-text c = λ address h is. address_read c.args.text.now _ (search rules) (returns-then-eq-clause-bytes c) address h is
 
 -- the bytes differ from those with the right check bytes
 differs : (bytes address checked : List ℕ) (r : Bool) → address ≡ take 32 bytes → checked ≡ address ++ check_of address → r ≡ pointwise ◌==◌ checked bytes → r ≡ false → drop 32 bytes ≢ check_of (take 32 bytes)

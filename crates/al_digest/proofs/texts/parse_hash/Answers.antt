@@ -10,3 +10,6 @@ returns-in_err-decode-clause-text c = λ hash h is. hash_read c.args.text.now c.
 
 pub returns-clause-text : goal.returns-clause-text
 returns-clause-text c = λ hash h is. hash_read c.args.text.now _ c.in_ok-decode.ensures.reads (search rules, c.in_ok-decode.ensures.bytes) hash h is
+
+pub returns-clause-bytes : goal.returns-clause-bytes
+returns-clause-bytes c = (search rules, c.in_ok-decode.ensures.bytes)

@@ -1,12 +1,12 @@
-use Rattle.std.proofs.Common.{◌≡◌, rules, refl, sym, ap, ap₂, codes, None, ◌∙◌}
+use Rattle.std.proofs.Common.{◌≡◌, rules, refl, sym, ap, ap₂, codes, true, None, ◌∙◌}
 use Rattle.al_msgpack.specs.declared.val.Entry.{Entry}
 use Rattle.al_txn.specs.declared.body.AppCall.{AppCall}
-use Rattle.al_txn.specs.Kept.{kept, others, merged}
+use Rattle.al_txn.specs.Kept.{are_kept, kept, others, merged}
 use Rattle.al_txn.specs.Txn.{txn, txn_fault, written, appl_txn}
 use Rattle.al_record.specs.Columns.{first_fault, rules_of, entries}
 use Rattle.al_record.proofs.Engine.{is_record, passes_on}
 use Rattle.al_record.proofs.OfKind.{text_shown}
-use Rattle.al_txn.proofs.Apart.{shown_others, others_canonical, join}
+use Rattle.al_txn.proofs.Apart.{kept_only, shown_others, others_canonical, join}
 use Rattle.al_txn.proofs.call.read_call.Goals as goal
 
 pub returns-in_err-check_call : goal.returns-in_err-check_call
@@ -16,9 +16,13 @@ pub returns : goal.returns
 returns c =
     let es = c.args.entries.now in
     let t = c.in_ok-common.field-0 in
-    let a : AppCall = record { app = c.number-app.result; rest = c.in_ok-rest.rest } in
+    let only : are_kept c.in_ok-rest.rest ≡ true = rw c.in_ok-rest.ensures (kept_only es) in
+    let a : AppCall = record { app = c.number-app.result; rest = c.in_ok-rest.rest; kept = only } in
     let kind = text_shown (codes "type") es _ c.requires.kind in
     let shown = shown_others appl_txn (t, a) es refl (search (rules, kind, c.number-app.ensures, c.in_ok-common.ensures.fields)) in
     let r = is_record appl_txn (t, a) (others es) refl (others_canonical es c.requires.canonical) c.in_ok-check_call.ensures shown in
     let whole : merged a.rest (entries appl_txn (t, a)) ≡ es = ap₂ merged c.in_ok-rest.ensures (sym r.fields) ∙ join es c.requires.canonical in
     record { fields = sym (ap (written t) c.in_ok-common.ensures.body ∙ whole); sound = ap (txn_fault es) c.requires.kind ∙ r.sound }
+
+pub invariant_of-body : goal.invariant_of-body
+invariant_of-body c = record { kept = rw c.in_ok-rest.ensures (kept_only c.args.entries.now) }

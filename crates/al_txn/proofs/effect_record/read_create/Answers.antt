@@ -12,5 +12,5 @@ pub returns : goal.returns
 returns c =
     let es = c.args.entries.now in
     let kind = number_shown (codes "e") es _ c.requires.kind in
-    of_kind effect create _ (record { uints = c.number-global_uints.result; slices = c.number-global_slices.result; local_uints = c.number-local_uints.result; local_slices = c.number-local_slices.result; pages = c.number-extra_pages.result; state = c.in_ok-state.state }) es (ap (kind_fault (codes "e") effect_rules es) c.requires.kind) refl
+    of_kind effect create _ (record { uints = c.number.result; slices = c.number-2.result; local_uints = c.number-3.result; local_slices = c.number-4.result; pages = c.number-5.result; state = c.in_ok-state.state }) es (ap (kind_fault (codes "e") effect_rules es) c.requires.kind) refl
     (is_record create _ es refl c.requires.canonical c.in_ok-check.ensures (search (rules, kind)))

@@ -12,5 +12,5 @@ pub returns : goal.returns
 returns c =
     let es = c.args.entries.now in
     let kind = number_shown (codes "e") es _ c.requires.kind in
-    of_kind effect set_local _ _ es (ap (kind_fault (codes "e") effect_rules es) c.requires.kind) refl
-    (is_record set_local _ es refl c.requires.canonical c.in_ok-check.ensures (search (rules, kind)))
+    of_kind effect set_local _ (c.array.result, c.in_ok-state.state) es (ap (kind_fault (codes "e") effect_rules es) c.requires.kind) refl
+    (is_record set_local (c.array.result, c.in_ok-state.state) es refl c.requires.canonical c.in_ok-check.ensures (search (rules, kind)))

@@ -1,0 +1,260 @@
+-- What a block's changes lead to, and that no block makes or loses money.
+use Rattle.std.proofs.Common.{◌≡◌, ◌≢◌, refl, sym, ap, ap₂, ◌∙◌, subst, ℕ, ◌+◌, ◌≤◌, List, [], ◌∷◌, ◌++◌, Result, Ok, Err, Option, Some, None, Bool, true, false, if◌then◌else◌, nat_eq, nat_lt, ◌&&◌, ◌||◌, not, option_map, eqb-true, arith, IfSome, map}
+use Rattle.std.specs.Option.{option_or}
+use Rattle.std.specs.List.{AllByRecursion}
+use Rattle.std.specs.FinMap.{FinMap, get, same_map}
+use Rattle.al_base.specs.Keys.{key_cmp}
+use Rattle.al_block.specs.declared.header.Header.{Header}
+use Rattle.al_block.specs.declared.header.Field.{Field}
+use Rattle.al_block.specs.declared.block.Block.{Block}
+use Rattle.al_rewards.specs.Pending.{max_balance}
+use Rattle.al_rows.specs.declared.row.Row.{Row}
+use Rattle.al_rows.specs.declared.stored.Stored.{Stored}
+use Rattle.al_rows.specs.Finite.{overlaid, or_below}
+use Rattle.al_rows.specs.Rows.{RowMap, same_row, bare}
+use Rattle.al_rows.proofs.Keys.{keys_total, exact_keys}
+use Rattle.al_rows.proofs.Maps.{get-map_entries}
+use Rattle.al_rows.proofs.Sames.{same_true}
+use Rattle.al_txn.specs.declared.body.Body.{Body}
+use Rattle.al_txn.specs.declared.body.Body.TheVariants as body
+use Rattle.al_txn.specs.declared.body.KeyReg.{KeyReg}
+use Rattle.al_txn.specs.declared.chain.Chain.{Chain}
+use Rattle.al_txn.specs.declared.txn.Txn.{Txn}
+use Rattle.al_txn.specs.declared.txn.Item.{Item}
+use Rattle.al_txn.specs.Form.{first_broken, common_tests, keyreg_tests, move_tests, config_tests, freeze_tests, tests_of, body_tests, form_fault}
+use Rattle.al_moves.specs.declared.rule.Rule.{Rule}
+use Rattle.al_moves.specs.Moves.{then_do, plain_rule, moved, rekeyed, paid, checked, unless_refused}
+use Rattle.al_moves.specs.Money.{money, IsFair}
+use Rattle.al_moves.proofs.Overlays.{get-now}
+use Rattle.al_moves.proofs.Monies.{moves_are_fair, fair_then}
+use Rattle.al_eval.specs.declared.before.Before.{Before}
+use Rattle.al_eval.specs.declared.tail.Entry.{Entry}
+use Rattle.al_eval.specs.Past.{entry_of, has_id}
+use Rattle.al_eval.specs.Steps.{Refusal, broken, header, first_fault, header_checks, rewards_checks, payset_fault, counter_fault, unless_fault, form_rule, fee_fault, window_fault, id_fault, held_until, lease_fault, item_fault, done_by, applied, transacted, at_place, all_items, block_rows}
+use Rattle.al_eval.specs.State.{State, before_of, after, stamp, stamped, step, ChangesLead, StepIsFair}
+
+-- ---- the changes lead to the new rows
+
+under : (b : Bool) (o p : Option Row) → (b ≡ true → o ≡ p) → or_below (if b then None else Some p) o ≡ p
+under true o p h = h refl
+under false o p h = refl
+
+pub changes_lead : ChangesLead
+changes_lead m n cs h = same_map keys_total exact_keys (overlaid cs m) n (λ q.
+    get-now cs m q ∙ ap (λ o. or_below o (get m q)) (h.each q) ∙ under (same_row (get m q) (get n q)) (get m q) (get n q) (same_true (get m q) (get n q)))
+
+rows_back : (o : Option Row) (f : Row → Stored) → ((r : Row) → (f r).row ≡ r) → option_map (λ s. s.row) (option_map f o) ≡ o
+rows_back None f h = refl
+rows_back (Some r) f h = ap Some (h r)
+
+-- the rows of the new state are those
+pub bare_stamped : (round : ℕ) (old : FinMap key_cmp Stored) (now : RowMap) → bare (stamped round old now) ≡ now
+bare_stamped round old now = same_map keys_total exact_keys (bare (stamped round old now)) now (λ q.
+    get-map_entries exact_keys (λ k (s : Stored). s.row) (stamped round old now) q
+    ∙ ap (option_map (λ (s : Stored). s.row)) (get-map_entries exact_keys (λ k (r : Row). record { row = r; changed = stamp round (get old k) r }) now q)
+    ∙ rows_back (get now q) (λ r. record { row = r; changed = stamp round (get old q) r }) (λ _. refl))
+
+-- ---- no rule that is tested before anything changes is the one of the largest balance
+
+abbrev IsOther : Option Rule → Type 0
+IsOther o = IfSome o (λ r. r.number ≢ 41)
+
+other_plain : (n : ℕ) → n ≤ 40 → n ≢ 41
+other_plain n l e = absurd (omega arith)
+
+first_few : (ts : List (ℕ × Bool)) → AllByRecursion (λ t. t.0 ≤ 40) ts → IfSome (first_broken ts) (λ n. n ≤ 40)
+first_few [] h = tt
+first_few (t ∷ ts) h = elim t.1 as (λ b. IfSome (if b then Some t.0 else first_broken ts) (λ n. n ≤ 40)) [ true ↦ h.0 | false ↦ first_few ts h.1 ]
+
+few : (n : ℕ) (m : ℕ) → n + m ≡ 40 → n ≤ 40
+few n m e = omega arith
+
+few_common : (t : Txn) (c : Chain) → IfSome (first_broken (common_tests t c)) (λ n. n ≤ 40)
+unfolding common_tests
+few_common t c = first_few (common_tests t c) (few 1 39 refl, (few 2 38 refl, (few 3 37 refl, (few 4 36 refl, (few 5 35 refl, (few 6 34 refl, (few 7 33 refl, (few 8 32 refl, tt))))))))
+
+few_of : (t : Txn) (b : Body) → IfSome (first_broken (tests_of t b)) (λ n. n ≤ 40)
+unfolding keyreg_tests move_tests config_tests freeze_tests
+few_of t (body.Pay p) = first_few (tests_of t (body.Pay p)) (few 9 31 refl, tt)
+few_of t (body.KeyReg k) = first_few (keyreg_tests k t.last) (few 10 30 refl, (few 11 29 refl, (few 12 28 refl, (few 13 27 refl, (few 14 26 refl, tt)))))
+few_of t (body.Config c) = first_few (config_tests c) (few 17 23 refl, (few 18 22 refl, (few 19 21 refl, (few 20 20 refl, tt))))
+few_of t (body.Move m) = first_few (move_tests m) (few 15 25 refl, (few 16 24 refl, tt))
+few_of t (body.Freeze f) = first_few (freeze_tests f) (few 21 19 refl, (few 22 18 refl, tt))
+few_of t (body.App a) = tt
+
+few_body : (t : Txn) → IfSome (first_broken (body_tests t)) (λ n. n ≤ 40)
+unfolding body_tests
+few_body t = few_of t t.body
+
+either : {A : Type 0} (P : A → Type 0) (o p : Option A) → IfSome o P → IfSome p P → IfSome (option_or o p) P
+either P None p h g = g
+either P (Some x) p h g = h
+
+plain_other : (o : Option ℕ) → IfSome o (λ n. n ≤ 40) → IsOther (option_map plain_rule o)
+plain_other None h = tt
+plain_other (Some n) h = other_plain n h
+
+mapped_other : (o : Option ℕ) (f : ℕ → Rule) → ((n : ℕ) → (f n).number ≢ 41) → IsOther (option_map f o)
+mapped_other None f h = tt
+mapped_other (Some n) f h = h n
+
+if_other : (b : Bool) (r : Rule) (o : Option Rule) → r.number ≢ 41 → IsOther o → IsOther (if b then Some r else o)
+if_other true r o h g = h
+if_other false r o h g = g
+
+abbrev number_not : Rule → Type 0
+number_not r = r.number ≢ 41
+
+item_other : (c : Chain) (round : ℕ) (past seen : List Entry) (i : Item) → IsOther (item_fault c round past seen i)
+unfolding item_fault
+item_other c round past seen i =
+    either number_not _ _ (plain_other (form_fault i c) (either (λ n. n ≤ 40) _ _ (few_common i.txn c) (few_body i.txn)))
+    (either number_not _ _ (if_other (nat_lt i.txn.fee 1000) _ None (other_plain 36 (few 36 4 refl)) tt)
+    (either number_not _ _ (if_other (nat_lt round i.txn.first) _ _ (other_plain 32 (few 32 8 refl)) (if_other (nat_lt i.txn.last round) _ None (other_plain 33 (few 33 7 refl)) tt))
+    (either number_not _ _ (if_other (has_id round (entry_of i.txn).id past || has_id round (entry_of i.txn).id seen) _ None (other_plain 30 (few 30 10 refl)) tt)
+    (mapped_other (held_until round past seen (entry_of i.txn)) _ (λ n. other_plain 31 (few 31 9 refl))))))
+
+-- ---- transactions
+
+done_is : (level : ℕ) (b : Body) (t : Txn) (m : RowMap) → IsFair level m (done_by b level t m)
+done_is level (body.Pay p) t m = moves_are_fair.paid level t.sender p m
+done_is level (body.KeyReg k) t m = refl
+done_is level (body.Config c) t m = refl
+done_is level (body.Move a) t m = refl
+done_is level (body.Freeze f) t m = refl
+done_is level (body.App a) t m = refl
+
+applied_is : (c : Chain) (level : ℕ) (t : Txn) (m : RowMap) → IsFair level m (applied c level t m)
+unfolding applied
+applied_is c level t m =
+    fair_then level m (moved level t.sender c.special.sink t.fee m) _ (moves_are_fair.moved level t.sender c.special.sink t.fee m)
+    (λ a _. fair_then level a (rekeyed t.sender t.rekey a) _ (moves_are_fair.rekeyed level t.sender t.rekey a)
+    (λ b _. fair_then level b (done_by t.body level t b) _ (done_is level t.body t b)
+    (λ d _. moves_are_fair.checked level c.special m d)))
+
+refused_other : (level : ℕ) (m : RowMap) (o : Option Rule) → IsOther o → IsFair level m (unless_refused o m)
+refused_other level m None h = refl
+refused_other level m (Some r) h = λ _. h
+
+transacted_is : (c : Chain) (round level : ℕ) (past seen : List Entry) (i : Item) (m : RowMap) → IsFair level m (transacted c round level past seen i m)
+unfolding transacted
+transacted_is c round level past seen i m =
+    fair_then level m (unless_refused (item_fault c round past seen i) m) (λ n. applied c level i.txn n) (refused_other level m (item_fault c round past seen i) (item_other c round past seen i)) (λ n _. applied_is c level i.txn n)
+
+-- ---- blocks
+
+-- the same of a refusal with its place
+IsFairAt : ℕ → RowMap → Result RowMap Refusal → Type 0
+IsFairAt level m (Ok n) = money level n ≡ money level m
+IsFairAt level m (Err (broken p r)) = money level m ≤ max_balance → r.number ≢ 41
+IsFairAt level m (Err (header f)) = Unit {0}
+
+placed : (level place : ℕ) (m : RowMap) (due : Result RowMap Rule) → IsFair level m due → IsFairAt level m (at_place place due)
+unfolding IsFairAt
+placed level place m (Ok n) h = h
+placed level place m (Err r) h = h
+
+fair_at : (level : ℕ) (m n : RowMap) → money level n ≡ money level m → (r : Result RowMap Refusal) → IsFairAt level n r → IsFairAt level m r
+unfolding IsFairAt
+fair_at level m n e (Ok k) h = h ∙ e
+fair_at level m n e (Err (broken p r)) h = λ l. h (omega arith)
+fair_at level m n e (Err (header f)) h = tt
+
+then_at : (level : ℕ) (m : RowMap) (due : Result RowMap Refusal) (f : RowMap → Result RowMap Refusal) → IsFairAt level m due → ((n : RowMap) → due ≡ Ok n → IsFairAt level n (f n)) → IsFairAt level m (then_do due f)
+unfolding IsFairAt
+then_at level m (Ok n) f h g = fair_at level m n h (f n) (g n refl)
+then_at level m (Err (broken p r)) f h g = h
+then_at level m (Err (header e)) f h g = tt
+
+items_are : (c : Chain) (round level : ℕ) (past : List Entry) (place : ℕ) (seen : List Entry) (is : List Item) (m : RowMap) → IsFairAt level m (all_items c round level past place seen is m)
+unfolding IsFairAt
+items_are c round level past place seen [] m = refl
+items_are c round level past place seen (i ∷ is) m =
+    then_at level m (at_place place (transacted c round level past seen i m)) (λ n. all_items c round level past (place + 1) (seen ++ entry_of i.txn ∷ []) is n)
+    (placed level place m (transacted c round level past seen i m) (transacted_is c round level past seen i m))
+    (λ n _. items_are c round level past (place + 1) (seen ++ entry_of i.txn ∷ []) is n)
+
+unless_is : (level : ℕ) (o : Option Field) (m : RowMap) → IsFairAt level m (unless_fault o m)
+unfolding IsFairAt
+unless_is level None m = refl
+unless_is level (Some f) m = tt
+
+block_is : (s : Before) (past : List Entry) (b : Block) (m : RowMap) → IsFairAt b.header.level m (block_rows s past b m)
+unfolding block_rows
+block_is s past b m =
+    let level = b.header.level in
+    then_at level m (unless_fault (first_fault (header_checks s b.header)) m) _ (unless_is level (first_fault (header_checks s b.header)) m)
+    (λ n _. then_at level n (unless_fault (payset_fault b) n) _ (unless_is level (payset_fault b) n)
+    (λ k _. then_at level k (all_items s.chain b.header.round level past 0 [] b.items k) _ (items_are s.chain b.header.round level past 0 [] b.items k)
+    (λ j _. unless_is level (counter_fault s b) j)))
+
+-- ---- the level of a block that passes its header
+
+all_pass : (cs : List (Bool × Field)) → first_fault cs ≡ None → AllByRecursion (λ c. c.0 ≡ true) cs
+all_pass [] h = tt
+all_pass (c ∷ cs) h = by_test c.0 refl h (all_pass cs)
+  where
+    by_test : (b : Bool) → c.0 ≡ b → (if b then first_fault cs else Some c.1) ≡ None → (first_fault cs ≡ None → AllByRecursion (λ c. c.0 ≡ true) cs) → (c.0 ≡ true) × AllByRecursion (λ c. c.0 ≡ true) cs
+    by_test true e k rest = (e, rest k)
+    by_test false e k rest = absurd (let x : ◌≡◌ {A = Option Field} (Some c.1) None = k in cc)
+
+same_level : (s : Before) (h : Header) → first_fault (header_checks s h) ≡ None → h.level ≡ s.header.level
+unfolding header_checks rewards_checks
+same_level s h e = let p = all_pass (header_checks s h) e in eqb-true h.level s.header.level p.1.1.1.1.1.1.1.1.1.0
+
+then_passed : (o : Option Field) (m : RowMap) (f : RowMap → Result RowMap Refusal) → ((n : RowMap) → then_do (unless_fault o m) f ≡ Ok n → o ≡ None)
+then_passed None m f n h = refl
+then_passed (Some x) m f n h = absurd (let y : ◌≡◌ {A = Result RowMap Refusal} (Err (header x)) (Ok n) = h in cc)
+
+then_broken : (o : Option Field) (m : RowMap) (f : RowMap → Result RowMap Refusal) (place : ℕ) (rule : Rule) → then_do (unless_fault o m) f ≡ Err (broken place rule) → o ≡ None
+then_broken None m f place rule h = refl
+then_broken (Some x) m f place rule h = absurd (let y : ◌≡◌ {A = Result RowMap Refusal} (Err (header x)) (Err (broken place rule)) = h in cc)
+
+block_level : (s : Before) (past : List Entry) (b : Block) (m n : RowMap) → block_rows s past b m ≡ Ok n → b.header.level ≡ s.header.level
+unfolding block_rows
+block_level s past b m n e = same_level s b.header (then_passed (first_fault (header_checks s b.header)) m _ n e)
+
+broken_level : (s : Before) (past : List Entry) (b : Block) (m : RowMap) (place : ℕ) (rule : Rule) → block_rows s past b m ≡ Err (broken place rule) → b.header.level ≡ s.header.level
+unfolding block_rows
+broken_level s past b m place rule e = same_level s b.header (then_broken (first_fault (header_checks s b.header)) m _ place rule e)
+
+pub block_keeps : (s : Before) (past : List Entry) (b : Block) (m n : RowMap) → block_rows s past b m ≡ Ok n → money b.header.level n ≡ money s.header.level m
+unfolding IsFairAt
+block_keeps s past b m n e = subst (IsFairAt b.header.level m) e (block_is s past b m) ∙ ap (λ l. money l m) (block_level s past b m n e)
+
+block_within : (s : Before) (past : List Entry) (b : Block) (m : RowMap) (place : ℕ) (rule : Rule) → block_rows s past b m ≡ Err (broken place rule) → money s.header.level m ≤ max_balance → rule.number ≢ 41
+unfolding IsFairAt
+block_within s past b m place rule e l =
+    subst (IsFairAt b.header.level m) e (block_is s past b m) (subst (λ n. money n m ≤ max_balance) (sym (broken_level s past b m place rule e)) l)
+
+-- ---- steps
+
+step_ok : (s t : State) (b : Block) (due : Result RowMap Refusal) → then_do due (λ m. Ok (after s b m)) ≡ Ok t → (n : RowMap) × (due ≡ Ok n) × (after s b n ≡ t)
+step_ok s t b (Ok n) e = (n, refl, (let x : ◌≡◌ {A = Result State Refusal} (Ok (after s b n)) (Ok t) = e in let y : after s b n ≡ t = cc in y))
+step_ok s t b (Err r) e = absurd (let x : ◌≡◌ {A = Result State Refusal} (Err r) (Ok t) = e in cc)
+
+step_err : (s : State) (b : Block) (due : Result RowMap Refusal) (r : Refusal) → then_do due (λ m. Ok (after s b m)) ≡ Err r → due ≡ Err r
+step_err s b (Ok n) r e = absurd (let x : ◌≡◌ {A = Result State Refusal} (Ok (after s b n)) (Err r) = e in cc)
+step_err s b (Err q) r e = let x : ◌≡◌ {A = Result State Refusal} (Err q) (Err r) = e in let y : q ≡ r = cc in ap Err y
+
+step_keeps : (s t : State) (b : Block) → step s b ≡ Ok t → money t.header.level (bare t.rows) ≡ money s.header.level (bare s.rows)
+unfolding step
+step_keeps s t b e =
+    let h = step_ok s t b (block_rows (before_of s) (map entry_of s.past) b (bare s.rows)) e in
+    ap (λ (u : State). money u.header.level (bare u.rows)) (sym h.2)
+    ∙ ap (money b.header.level) (bare_stamped b.header.round s.rows h.0)
+    ∙ block_keeps (before_of s) (map entry_of s.past) b (bare s.rows) h.0 h.1
+
+step_within : (s : State) (b : Block) (place : ℕ) (rule : Rule) → step s b ≡ Err (broken place rule) → money s.header.level (bare s.rows) ≤ max_balance → rule.number ≢ 41
+unfolding step
+step_within s b place rule e l = block_within (before_of s) (map entry_of s.past) b (bare s.rows) place rule (step_err s b (block_rows (before_of s) (map entry_of s.past) b (bare s.rows)) (broken place rule) e) l
+
+pub step_is_fair : StepIsFair
+step_is_fair = record { kept = step_keeps; within = step_within }
+
+-- what else a block leaves
+pub after_step : (s t : State) (b : Block) → step s b ≡ Ok t → (t.header ≡ b.header) × (t.chain ≡ s.chain) × (t.past ≡ s.past ++ map (λ i. i.txn) b.items)
+unfolding step
+after_step s t b e =
+    let h = step_ok s t b (block_rows (before_of s) (map entry_of s.past) b (bare s.rows)) e in
+    (ap (λ (u : State). u.header) (sym h.2), ap (λ (u : State). u.chain) (sym h.2), ap (λ (u : State). u.past) (sym h.2))

@@ -1,0 +1,25 @@
+use Rattle.std.proofs.Common.{◌≡◌, ◌∙◌, ap, subst, Ok, Err, map}
+use Rattle.std.proofs.lemmas.Result.{IfOk-at_ok}
+use Rattle.al_rows.specs.Rows.{RowMap}
+use Rattle.al_moves.specs.Works.{Worked}
+use Rattle.al_moves.specs.Moves.{AreChanges, change_of}
+use Rattle.al_eval.specs.Steps.{Gives, block_rows}
+use Rattle.al_eval.proofs.Ends.{evals_err}
+use Rattle.al_eval.proofs.run.eval_over.Goals as goal
+use Rattle.al_eval.proofs.run.eval_over.Goals.{in-Err, in-Ok+in-Ok-changes, in-Ok+in-Err-changes}
+
+pub returns-clause-step : goal.returns-clause-step
+returns-clause-step g c = λ t.
+    let new = c.block_rows-run.new.work in
+    let old : c.new-work.result.now ≡ g.V.RowView.rows c.args.view = ap (λ (w : Worked). w.now) c.new-work.ensures in
+    let block : new.block ≡ g.V.RowView.rows c.args.view = c.block_rows-run.ensures.fixed.block t ∙ ap (λ (w : Worked). w.block) c.new-work.ensures in
+    elim c.match-run.branch [
+      | in-Err w ↦ rw w.t-23-is (evals_err (Unit {0}) _ (g.V.RowView.rows c.args.view) new.now w.in-Err.refusal
+          (subst (λ (m : RowMap). Gives {T = Unit {0}} (block_rows c.args.before.now c.args.past.now c.args.block.now m) (Err w.in-Err.refusal) new.now) old (w.in-Err.ensures.gives t)))
+      | in-Ok+in-Ok-changes w ↦ rw w.t-23-is (
+        new.now,
+        subst (λ (m : RowMap). block_rows c.args.before.now c.args.past.now c.args.block.now m ≡ Ok new.now) old (w.in-Ok.ensures.gives t),
+        subst (λ (m : RowMap). AreChanges m new.now (map change_of w.in-Ok-changes.changes)) block (IfOk-at_ok (λ cs. AreChanges new.block new.now (map change_of cs)) w.in-Ok-changes.is (c.end-changes.ensures.changes t)),
+      )
+      | in-Ok+in-Err-changes w ↦ rw w.t-23-is tt
+    ]

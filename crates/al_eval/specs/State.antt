@@ -1,0 +1,104 @@
+-- The ledger's state, the step of a block over it, and the replay of blocks.
+use Rattle.std.specs.Prelude.{◌≡◌, ◌≢◌, ℕ, ◌≤◌, List, [], ◌∷◌, ◌++◌, map, take, ⊤, if◌then◌else◌}
+use Rattle.std.specs.declared.option.Option.{Option}
+use Rattle.std.specs.declared.option.Option.TheVariants.{None, Some}
+use Rattle.std.specs.declared.result.Result.{Result}
+use Rattle.std.specs.declared.result.Result.TheVariants.{Ok, Err}
+use Rattle.std.specs.FinMap.{FinMap, get, from_entries}
+use Rattle.std.specs.BTreeMap.{BTreeMap}
+use Rattle.al_base.specs.declared.key.Key.{Key}
+use Rattle.al_base.specs.Keys.{key_cmp}
+use Rattle.al_block.specs.declared.header.Header.{Header}
+use Rattle.al_block.specs.declared.block.Block.{Block}
+use Rattle.al_block.specs.Hashes.{header_hash_of}
+use Rattle.al_rows.specs.declared.row.Row.{Row}
+use Rattle.al_rows.specs.declared.stored.Stored.{Stored}
+use Rattle.al_rows.specs.Finite.{map_entries, overlaid}
+use Rattle.al_rows.specs.Rows.{RowMap, bare, row_eq}
+use Rattle.al_rewards.specs.Pending.{max_balance}
+use Rattle.al_txn.specs.declared.body.Body.{Body}
+use Rattle.al_txn.specs.declared.body.Body.TheVariants as body
+use Rattle.al_txn.specs.declared.chain.Chain.{Chain}
+use Rattle.al_txn.specs.declared.txn.Txn.{Txn}
+use Rattle.al_txn.specs.declared.txn.Item.{Item}
+use Rattle.al_moves.specs.declared.rule.Rule.{Rule}
+use Rattle.al_moves.specs.Moves.{then_do, AreChanges}
+use Rattle.al_moves.specs.Money.{money}
+use Rattle.al_eval.specs.declared.before.Before.{Before}
+use Rattle.al_eval.specs.declared.before.EvalRefusal.{EvalRefusal}
+use Rattle.al_eval.specs.declared.before.EvalRefusal.TheVariants as answer
+use Rattle.al_eval.specs.Past.{entry_of}
+use Rattle.al_eval.specs.Steps.{Refusal, broken, header, block_rows}
+
+-- what is fixed of the chain, the header of the last block, the rows with the rounds that changed them last, and all transactions so far in order
+pub record State : Type 0 where
+  pub chain : Chain
+  pub header : Header
+  pub rows : FinMap key_cmp Stored
+  pub past : List Txn
+
+abbrev pub before_of : State → Before
+before_of s = record { chain = s.chain; header = s.header; hash = header_hash_of s.header }
+
+-- the round of the last block after which the row differed from before that block
+abbrev pub stamp : ℕ → Option Stored → Row → ℕ
+stamp round None row = round
+stamp round (Some s) row = if row_eq s.row row then s.changed else round
+
+abbrev pub stamped : ℕ → FinMap key_cmp Stored → RowMap → FinMap key_cmp Stored
+stamped round old now = map_entries (λ k r. record { row = r; changed = stamp round (get old k) r }) now
+
+-- the state after a block with these rows
+abbrev pub after : State → Block → RowMap → State
+after s b m = record s { header = b.header; rows = stamped b.header.round s.rows m; past = s.past ++ map (λ i. i.txn) b.items }
+
+-- the step of a block: a new state, or the first refusal. It is the ledger's step where each transaction is a payment of its own, outside any group, no account is listed as expired, and nothing is to be given: the pool holds its least, 100,000, and level, rate and residue are 0
+unfoldable pub step : State → Block → Result State Refusal
+step s b = then_do (block_rows (before_of s) (map entry_of s.past) b (bare s.rows)) (λ m. Ok (after s b m))
+
+-- one block after another
+abbrev pub replay : State → List Block → Result State Refusal
+replay s [] = Ok s
+replay s (b ∷ bs) = then_do (step s b) (λ t. replay t bs)
+
+-- the row under a key in a state
+abbrev pub row_in : Key → Result State Refusal → Option Stored
+row_in key (Ok s) = get s.rows key
+row_in key (Err r) = None
+
+-- the row under a key after the first n blocks
+abbrev pub row_at : State → List Block → ℕ → Key → Option Stored
+row_at s bs n key = row_in key (replay s (take n bs))
+
+-- the reward level of a state
+abbrev pub level_in : Result State Refusal → ℕ
+level_in (Ok s) = s.header.level
+level_in (Err r) = 0
+
+-- the reward level after the first n blocks
+abbrev pub level_at : State → List Block → ℕ → ℕ
+level_at s bs n = level_in (replay s (take n bs))
+
+-- a transaction that pays
+abbrev pub IsPay : Body → Type 0
+IsPay (body.Pay p) = ⊤
+IsPay b = ⊥
+
+-- the rows of the state that is due, or the refusal that is due
+abbrev pub Steps : {F : Type 0} → Result State Refusal → Result (BTreeMap Key Stored) (EvalRefusal F) → Type 0
+Steps due (Ok rows) = (s : State) × (due ≡ Ok s) × (s.rows ≡ from_entries rows.entries)
+Steps due (Err (answer.Broken p r)) = due ≡ Err (broken p r)
+Steps due (Err (answer.Header f)) = due ≡ Err (header f)
+Steps due (Err (answer.View f)) = ⊤
+Steps due (Err answer.Memory) = ⊤
+
+-- ---- laws
+
+-- what a block changes, put over the rows before, gives the rows after
+abbrev pub ChangesLead : Type 0
+ChangesLead = (m n : RowMap) (cs : List (Key × Option Row)) → AreChanges m n cs → overlaid cs m ≡ n
+
+-- a block that is taken keeps the money of all accounts, and where that is at most what a balance may be, none is refused because a balance would pass it
+pub record StepIsFair : Type 0 where
+  pub kept : (s t : State) (b : Block) → step s b ≡ Ok t → money t.header.level (bare t.rows) ≡ money s.header.level (bare s.rows)
+  pub within : (s : State) (b : Block) (place : ℕ) (rule : Rule) → step s b ≡ Err (broken place rule) → money s.header.level (bare s.rows) ≤ max_balance → rule.number ≢ 41

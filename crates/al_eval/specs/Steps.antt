@@ -1,0 +1,178 @@
+-- The step of a block over rows, by the Algorand ledger specification, with the first refusal.
+use Rattle.std.specs.Prelude.{◌≡◌, ℕ, ◌+◌, List, [], ◌∷◌, ◌++◌, map, length, Bool, true, nat_eq, nat_lt, nat_le, ◌&&◌, ◌||◌, if◌then◌else◌, replicate, ⊤}
+use Rattle.std.specs.declared.option.Option.{Option}
+use Rattle.std.specs.declared.option.Option.TheVariants.{None, Some}
+use Rattle.std.specs.declared.result.Result.{Result}
+use Rattle.std.specs.declared.result.Result.TheVariants.{Ok, Err}
+use Rattle.std.specs.Option.{option_or, option_map}
+use Rattle.al_base.specs.Causes.{Rose}
+use Rattle.al_block.specs.declared.header.Header.{Header}
+use Rattle.al_block.specs.declared.header.Field.{Field}
+use Rattle.al_block.specs.declared.header.Field.TheVariants as field
+use Rattle.al_block.specs.declared.block.Block.{Block}
+use Rattle.al_block.specs.Hashes.{payset_hash_of}
+use Rattle.al_rows.specs.Rows.{RowMap, same_bytes}
+use Rattle.al_txn.specs.declared.body.Body.{Body}
+use Rattle.al_txn.specs.declared.body.Body.TheVariants as body
+use Rattle.al_txn.specs.declared.chain.Chain.{Chain}
+use Rattle.al_txn.specs.declared.txn.Txn.{Txn}
+use Rattle.al_txn.specs.declared.txn.Item.{Item}
+use Rattle.al_txn.specs.Form.{form_fault}
+use Rattle.al_moves.specs.declared.rule.Rule.{Rule}
+use Rattle.al_moves.specs.Moves.{then_do, same_address, plain_rule, too_few, held_until as rule_until, moved, rekeyed, paid, checked, unless_refused, change_of, AreChanges}
+use Rattle.al_moves.specs.Works.{Worked, IsFixed}
+use Rattle.al_eval.specs.declared.before.Before.{Before}
+use Rattle.al_eval.specs.declared.before.RoundDelta.{RoundDelta}
+use Rattle.al_eval.specs.declared.before.EvalRefusal.{EvalRefusal}
+use Rattle.al_eval.specs.declared.before.EvalRefusal.TheVariants as answer
+use Rattle.al_eval.specs.declared.tail.Entry.{Entry}
+use Rattle.al_eval.specs.Past.{entry_of, has_id, lease_until}
+
+-- why a block is refused: a transaction breaks a rule, or a header field is not what is due
+pub data Refusal : Type 0 where
+  broken : (place : ℕ) (rule : Rule) → Refusal
+  header : (field : Field) → Refusal
+
+-- ---- the header
+
+-- the first field that differs from what is due
+abbrev pub first_fault : List (Bool × Field) → Option Field
+first_fault [] = None
+first_fault (c ∷ cs) = if c.0 then first_fault cs else Some c.1
+
+-- a time lies from the one before to that plus 25 seconds; where that is 0 it may be any
+abbrev pub is_in_time : ℕ → ℕ → Bool
+is_in_time last ts = nat_eq last 0 || nat_le last ts && nat_le ts (last + 25)
+
+-- the round at which the reward rate is computed anew, after a round
+abbrev pub recalc_due : Before → ℕ → ℕ
+recalc_due s round = if nat_eq round s.header.recalc then round + s.chain.interval else s.header.recalc
+
+-- what is due while nothing is to be given: the pool holds its least, 100,000, and level, rate and residue are 0. They stay, and only the round of the next recalculation moves on. The general rule is not given yet
+unfoldable pub rewards_checks : Before → Header → List (Bool × Field)
+rewards_checks s h =
+    (nat_eq h.rate s.header.rate, field.Rate)
+    ∷ (nat_eq h.recalc (recalc_due s h.round), field.Rwcalr)
+    ∷ (nat_eq h.residue s.header.residue, field.Frac)
+    ∷ (nat_eq h.level s.header.level, field.Earn)
+    ∷ []
+
+-- what is due of a header, in the order of the tests
+unfoldable pub header_checks : Before → Header → List (Bool × Field)
+header_checks s h =
+    (nat_eq h.round (s.header.round + 1), field.Rnd)
+    ∷ (same_bytes h.prev s.hash, field.Prev)
+    ∷ (same_bytes h.genesis_hash s.chain.hash, field.Gh)
+    ∷ (is_in_time s.header.ts h.ts, field.Ts)
+    ∷ (same_address h.sink s.chain.special.sink, field.Fees)
+    ∷ (same_address h.pool s.chain.special.pool, field.Rwd)
+    ∷ rewards_checks s h
+
+-- the digest of the payset
+abbrev pub payset_fault : Block → Option Field
+payset_fault b = if same_bytes b.header.payset (payset_hash_of b.items) then None else Some field.Txn
+
+-- the count of all transactions
+abbrev pub counter_fault : Before → Block → Option Field
+counter_fault s b = if nat_eq b.header.counter (s.header.counter + length b.items) then None else Some field.Tc
+
+abbrev pub unless_fault : Option Field → RowMap → Result RowMap Refusal
+unless_fault None m = Ok m
+unless_fault (Some f) m = Err (header f)
+
+-- ---- transactions
+
+abbrev pub form_rule : Item → Chain → Option Rule
+form_rule i c = option_map plain_rule (form_fault i c)
+
+-- 36: the fee is too low
+abbrev pub fee_fault : ℕ → Option Rule
+fee_fault fee = if nat_lt fee 1000 then Some (too_few 36 fee 1000) else None
+
+-- 32, 33: the round is outside the transaction's rounds
+abbrev pub window_fault : ℕ → Txn → Option Rule
+window_fault round t = if nat_lt round t.first then Some (plain_rule 32) else if nat_lt t.last round then Some (plain_rule 33) else None
+
+-- 30: the id stands in the chain, or earlier in the block
+abbrev pub id_fault : ℕ → List Entry → List Entry → Entry → Option Rule
+id_fault round past seen e = if has_id round e.id past || has_id round e.id seen then Some (plain_rule 30) else None
+
+-- the last round that a lease that is not zero is held in the chain, or earlier in the block
+abbrev pub held_until : ℕ → List Entry → List Entry → Entry → Option ℕ
+held_until round past seen e =
+    if same_bytes e.lease (replicate 32 0) then None else option_or (lease_until round e.sender e.lease past) (lease_until round e.sender e.lease seen)
+
+-- 31: the lease is held
+abbrev pub lease_fault : ℕ → List Entry → List Entry → Entry → Option Rule
+lease_fault round past seen e = option_map (rule_until 31) (held_until round past seen e)
+
+-- the first rule that a transaction breaks before it changes anything: its form, its fee, its rounds, its id, its lease
+unfoldable pub item_fault : Chain → ℕ → List Entry → List Entry → Item → Option Rule
+item_fault c round past seen i =
+    option_or (form_rule i c) (option_or (fee_fault i.txn.fee) (option_or (window_fault round i.txn)
+    (option_or (id_fault round past seen (entry_of i.txn)) (lease_fault round past seen (entry_of i.txn)))))
+
+-- what a body does. Bodies other than payments are not given yet
+abbrev pub done_by : Body → ℕ → Txn → RowMap → Result RowMap Rule
+done_by (body.Pay p) level t m = paid level t.sender p m
+done_by b level t m = Ok m
+
+abbrev pub body_of : ℕ → Txn → RowMap → Result RowMap Rule
+body_of level t m = done_by t.body level t m
+
+-- the fee moves to the sink, then who signs is set, then the body does its work, and then what changed keeps its minimum
+unfoldable pub applied : Chain → ℕ → Txn → RowMap → Result RowMap Rule
+applied c level t m =
+    then_do (moved level t.sender c.special.sink t.fee m) (λ a. then_do (rekeyed t.sender t.rekey a) (λ b. then_do (body_of level t b) (λ d. checked level c.special m d)))
+
+unfoldable pub transacted : Chain → ℕ → ℕ → List Entry → List Entry → Item → RowMap → Result RowMap Rule
+transacted c round level past seen i m = then_do (unless_refused (item_fault c round past seen i) m) (λ n. applied c level i.txn n)
+
+abbrev pub at_place : ℕ → Result RowMap Rule → Result RowMap Refusal
+at_place place (Ok m) = Ok m
+at_place place (Err r) = Err (broken place r)
+
+-- the transactions in order, from a place on, with the entries of those before in the block
+abbrev pub all_items : Chain → ℕ → ℕ → List Entry → ℕ → List Entry → List Item → RowMap → Result RowMap Refusal
+all_items c round level past place seen [] m = Ok m
+all_items c round level past place seen (i ∷ is) m =
+    then_do (at_place place (transacted c round level past seen i m)) (λ n. all_items c round level past (place + 1) (seen ++ entry_of i.txn ∷ []) is n)
+
+-- ---- blocks
+
+-- first the header, then the digest of the payset, then the transactions in order, and last their count
+unfoldable pub block_rows : Before → List Entry → Block → RowMap → Result RowMap Refusal
+block_rows s past b m =
+    then_do (unless_fault (first_fault (header_checks s b.header)) m)
+    (λ m. then_do (unless_fault (payset_fault b) m)
+    (λ m. then_do (all_items s.chain b.header.round b.header.level past 0 [] b.items m)
+    (λ n. unless_fault (counter_fault s b) n)))
+
+-- ---- what calls answer
+
+abbrev pub IsCounted : {F T : Type 0} → Result T (EvalRefusal F) → ℕ → ℕ → Type 0
+IsCounted (Ok x) before now = ⊤
+IsCounted (Err (answer.Broken p r)) before now = ⊤
+IsCounted (Err (answer.Header f)) before now = ⊤
+IsCounted (Err (answer.View f)) before now = Rose before now
+IsCounted (Err answer.Memory) before now = ⊤
+
+abbrev pub Gives : {F T : Type 0} → Result RowMap Refusal → Result T (EvalRefusal F) → RowMap → Type 0
+Gives due (Ok x) new = due ≡ Ok new
+Gives due (Err (answer.Broken p r)) new = due ≡ Err (broken p r)
+Gives due (Err (answer.Header f)) new = due ≡ Err (header f)
+Gives due (Err (answer.View f)) new = ⊤
+Gives due (Err answer.Memory) new = ⊤
+
+pub record Runs {F T : Type 0} (tells : Bool) (due : Result RowMap Refusal) (old new : Worked) (result : Result T (EvalRefusal F)) : Type 0 where
+  pub fixed : IsFixed tells old new
+  pub gives : tells ≡ true → Gives due result new.now
+  pub cause : IsCounted result old.failures new.failures
+
+-- the changes lead from the rows before to the rows that are due, or the refusal is the one that is due
+abbrev pub Evals : {F : Type 0} → Result RowMap Refusal → RowMap → Result RoundDelta (EvalRefusal F) → Type 0
+Evals due old (Ok d) = (n : RowMap) × (due ≡ Ok n) × AreChanges old n (map change_of d.changes)
+Evals due old (Err (answer.Broken p r)) = due ≡ Err (broken p r)
+Evals due old (Err (answer.Header f)) = due ≡ Err (header f)
+Evals due old (Err (answer.View f)) = ⊤
+Evals due old (Err answer.Memory) = ⊤

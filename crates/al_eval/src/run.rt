@@ -1,0 +1,136 @@
+//! The step of a block over a view.
+ghost use Rattle.std.specs.Prelude.{◌≡◌, ◌+◌, true, IfOk, IfSome, map, All, length};
+ghost use Rattle.std.specs.List.Sorted.{IsStrictlySortedBy};
+ghost use Rattle.al_base.specs.Keys.{key_cmp};
+ghost use Rattle.al_rows.specs.Rows.{IsKept};
+ghost use Rattle.al_eval.specs.Steps.{Evals, IsCounted, Runs, block_rows, counter_fault, payset_fault, unless_fault};
+
+use crate::header::{header_fault, is_sum};
+use crate::lent::Lent;
+use crate::transact::all_items;
+use crate::{Before, EvalRefusal, RoundDelta, Tail};
+use al_block::{Block, Field, payset_hash};
+use al_moves::Work;
+use al_rows::RowView;
+use std::alloc::{AllocError, Global};
+
+// Whether the header's digest of the payset is not what is due.
+fn payset_fault(alloc: Global, block: &Block) -> Result<Option<Field>, AllocError>
+    ensures { IfOk result (λ f. f ≡ payset_fault block.now) }
+{
+    if block.header.payset == payset_hash(alloc, block)? {
+        Ok(None)
+    } else {
+        Ok(Some(Field::Txn))
+    }
+}
+
+// Whether the header's counter is not what is due.
+fn counter_fault(before: &Before, block: &Block) -> Option<Field>
+    ensures { result ≡ counter_fault before.now block.now }
+{
+    if is_sum(
+        block.header.counter,
+        before.header.counter,
+        block.items.len() as u64,
+    ) {
+        None
+    } else {
+        Some(Field::Tc)
+    }
+}
+
+// The whole step over a work.
+#[tactic(auto, unfolding(crate::specs::Steps::block_rows))]
+fn block_rows<V: RowView>(
+    alloc: Global,
+    work: &mut Work<V>,
+    before: &Before,
+    past: &Tail,
+    block: &Block,
+) -> Result<(), EvalRefusal<V::Fault>>
+    requires level { work.old.level ≡ block.now.header.level }
+    requires special { work.old.special ≡ before.now.chain.special }
+    ensures { Runs V.tells (block_rows before.now past.now block.now work.old.now) work.old work.new result }
+{
+    if let Some(field) = header_fault(before, &block.header) {
+        return Err(EvalRefusal::Header { field });
+    }
+    match payset_fault(alloc, block) {
+        Ok(None) => {}
+        Ok(Some(field)) => return Err(EvalRefusal::Header { field }),
+        Err(AllocError) => return Err(EvalRefusal::Memory),
+    }
+    all_items(
+        alloc,
+        work,
+        &before.chain,
+        block.header.round,
+        past,
+        block.items.as_slice(),
+    )?;
+    match counter_fault(before, block) {
+        Some(field) => Err(EvalRefusal::Header { field }),
+        None => Ok(()),
+    }
+}
+
+// The step over a view that is given back.
+fn eval_over<V: RowView>(
+    alloc: Global,
+    view: V,
+    before: &Before,
+    past: &Tail,
+    block: &Block,
+    answer: &mut Result<RoundDelta, EvalRefusal<V::Fault>>,
+) -> V
+    ensures lender { V.lender result ≡ V.lender view }
+    ensures step { V.tells ≡ true → Evals (block_rows before.now past.now block.now (V.rows view)) (V.rows view) answer.new }
+    ensures cause { IsCounted answer.new (V.failures view) (V.failures result) }
+    ensures ordered { IfOk answer.new (λ d. IsStrictlySortedBy key_cmp (map (λ c. c.key) d.changes)) }
+    ensures kept { IfOk answer.new (λ d. All (λ c. IfSome c.row (IsKept c.key)) d.changes) }
+    ensures round { IfOk answer.new (λ d. d.round ≡ block.now.header.round) }
+{
+    let header = &block.header;
+    let mut work = Work::new(
+        alloc,
+        view,
+        before.chain.special,
+        header.level,
+        header.round,
+    );
+    let run = block_rows(alloc, &mut work, before, past, block);
+    let (changes, view) = work.end();
+    *answer = match run {
+        Err(refusal) => Err(refusal),
+        Ok(()) => match changes {
+            Ok(changes) => Ok(RoundDelta {
+                round: header.round,
+                changes,
+            }),
+            Err(_) => Err(EvalRefusal::Memory),
+        },
+    };
+    view
+}
+
+/// The step of a block over a view: what it changes, or the first refusal. It follows the Algorand
+/// ledger specification: first the header's fields, then the digest of the payset, then each
+/// transaction in order, and last the count of transactions.
+pub fn eval<V: RowView>(
+    alloc: Global,
+    view: &mut V,
+    before: &Before,
+    tail: &Tail,
+    block: &Block,
+) -> Result<RoundDelta, EvalRefusal<V::Fault>>
+    ensures step { V.tells ≡ true → Evals (block_rows before.now tail.now block.now (V.rows view.old)) (V.rows view.old) result }
+    ensures cause { IsCounted result (V.failures view.old) (V.failures view.new) }
+    ensures ordered { IfOk result (λ d. IsStrictlySortedBy key_cmp (map (λ c. c.key) d.changes)) }
+    ensures kept { IfOk result (λ d. All (λ c. IfSome c.row (IsKept c.key)) d.changes) }
+    ensures round { IfOk result (λ d. d.round ≡ block.now.header.round) }
+{
+    let mut answer = Err(EvalRefusal::Memory);
+    let _lent = eval_over(alloc, Lent { view }, before, tail, block, &mut answer);
+    answer
+}

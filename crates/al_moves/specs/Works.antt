@@ -1,0 +1,104 @@
+-- What a work is: a map of rows over another.
+use Rattle.std.specs.Prelude.{◌≡◌, ℕ, List, Bool, true, false, IfSome, IsSome, ◌≤◌, ⊤}
+use Rattle.std.specs.declared.option.Option.{Option}
+use Rattle.std.specs.declared.option.Option.TheVariants.{None, Some}
+use Rattle.std.specs.declared.result.Result.{Result}
+use Rattle.std.specs.declared.result.Result.TheVariants.{Ok, Err}
+use Rattle.std.specs.FinMap.{get}
+use Rattle.std.specs.BTreeMap.{is_at}
+use Rattle.std.specs.Map.{lookup}
+use Rattle.al_base.specs.declared.account.Special.{Special}
+use Rattle.al_base.specs.declared.key.Key.{Key}
+use Rattle.al_rows.specs.declared.row.Row.{Row}
+use Rattle.al_base.specs.Keys.{key_cmp}
+use Rattle.al_rows.specs.Finite.{or_below}
+use Rattle.al_rows.specs.Rows.{RowMap, IsKept, unless_zero}
+use Rattle.al_base.specs.Causes.{Rose}
+use Rattle.al_moves.specs.declared.rule.Rule.{Rule}
+use Rattle.al_moves.specs.declared.rule.Stop.{Stop}
+use Rattle.al_moves.specs.declared.rule.Stop.TheVariants as stop
+
+-- the rows before the block, before the transaction and now
+pub record Worked : Type 0 where
+  pub block : RowMap
+  pub start : RowMap
+  pub now : RowMap
+  pub level : ℕ
+  pub round : ℕ
+  pub special : Special
+  pub failures : ℕ
+  pub lender : ℕ
+
+abbrev pub at : {X : Type 0} → List (Key × X) → Key → Option X
+at es q = lookup (is_at (key_cmp q)) es
+
+-- the row that stands under a key among changes, none where it did not change
+abbrev pub now_at : List (Key × Option Row) → Key → Option Row
+now_at es q = or_below (at es q) None
+
+-- each row in blocks is the view's, and what changed since the start or the block's start has a row
+pub record IsWork (tells : Bool) (block : RowMap) (rows blocks started : List (Key × Option Row)) : Type 0 where
+  pub told : tells ≡ true → (q : Key) → IfSome (at blocks q) (λ old. old ≡ get block q)
+  pub kept : (q : Key) → IfSome (at rows q) (λ row. IfSome row (IsKept q))
+  pub has_block : (q : Key) → IsSome (at rows q) → IsSome (at blocks q)
+  pub has_row : (q : Key) → IsSome (at started q) → IsSome (at rows q)
+
+-- what no call changes; where the view tells its rows, these stay too
+pub record IsFixed (tells : Bool) (old new : Worked) : Type 0 where
+  pub level : new.level ≡ old.level
+  pub round : new.round ≡ old.round
+  pub special : new.special ≡ old.special
+  pub failures : old.failures ≤ new.failures
+  pub lender : new.lender ≡ old.lender
+  pub block : tells ≡ true → new.block ≡ old.block
+
+-- where it is no Stop, nothing that was there before the transaction changes
+abbrev pub Starts : {F T : Type 0} → Result T (Stop F) → Worked → Worked → Type 0
+Starts (Ok x) old new = new.start ≡ old.start
+Starts (Err e) old new = ⊤
+
+-- the rows after a step are what it gives, and its refusal is the one that it gives
+abbrev pub Gives : {F T : Type 0} → Result RowMap Rule → Result T (Stop F) → RowMap → Type 0
+Gives due (Ok x) new = due ≡ Ok new
+Gives due (Err (stop.Rule r)) new = due ≡ Err r
+Gives due (Err (stop.View f)) new = ⊤
+Gives due (Err stop.Memory) new = ⊤
+
+-- a failure comes only where the view's count rose
+abbrev pub IsCounted : {F T : Type 0} → Result T (Stop F) → ℕ → ℕ → Type 0
+IsCounted (Ok x) before now = ⊤
+IsCounted (Err (stop.Rule r)) before now = ⊤
+IsCounted (Err (stop.View f)) before now = Rose before now
+IsCounted (Err stop.Memory) before now = ⊤
+
+-- a call does what is due
+pub record Does {F T : Type 0} (tells : Bool) (due : Result RowMap Rule) (old new : Worked) (result : Result T (Stop F)) : Type 0 where
+  pub fixed : IsFixed tells old new
+  pub gives : tells ≡ true → Gives due result new.now
+  pub starts : tells ≡ true → Starts result old new
+  pub cause : IsCounted result old.failures new.failures
+
+-- a look-up never is a rule
+abbrev pub IsNoRule : {F T : Type 0} → Result T (Stop F) → Type 0
+IsNoRule (Ok x) = ⊤
+IsNoRule (Err (stop.Rule r)) = ⊥
+IsNoRule (Err (stop.View f)) = ⊤
+IsNoRule (Err stop.Memory) = ⊤
+
+pub record Looks {F T : Type 0} (tells : Bool) (old new : Worked) (result : Result T (Stop F)) : Type 0 where
+  pub fixed : IsFixed tells old new
+  pub now : tells ≡ true → new.now ≡ old.now
+  pub start : tells ≡ true → new.start ≡ old.start
+  pub cause : IsCounted result old.failures new.failures
+  pub no_rule : IsNoRule result
+
+-- a zero row is no row
+abbrev pub nonzero : Option Row → Option Row
+nonzero None = None
+nonzero (Some row) = unless_zero row
+
+-- the same of a whole transaction, which sets the start anew
+pub record IsDone {F T : Type 0} (tells : Bool) (due : Result RowMap Rule) (old new : Worked) (result : Result T (Stop F)) : Type 0 where
+  pub fixed : IsFixed tells old new
+  pub gives : tells ≡ true → Gives due result new.now
+  pub cause : IsCounted result old.failures new.failures

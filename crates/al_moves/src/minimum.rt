@@ -1,0 +1,99 @@
+//! The minimum balances of what a transaction changed.
+ghost use Rattle.std.specs.Prelude.{◌≡◌, ◌^◌, ◌≤◌, Option, Some, None, IfSome};
+ghost use Rattle.std.specs.BTreeMap.{IsOrdered};
+ghost use Rattle.al_base.specs.Keys.{key_cmp};
+ghost use Rattle.al_rows.specs.Finite.{first_some};
+ghost use Rattle.al_rows.specs.Rows.{AccountInRange, InRange, IsKept};
+ghost use Rattle.al_moves.specs.Moves.{earned, lacking, shortfall};
+ghost use Rattle.al_moves.specs.Works.{at, now_at};
+
+use crate::Rule;
+use al_base::{Address, Key, Special};
+use al_rewards::{Share, pending};
+use al_rows::{AccountRow, Row, account_in, same_row};
+use std::collections::BTreeMap;
+
+// The rewards of an account that are not yet in its balance.
+pub fn earned(level: u64, r: &AccountRow) -> u64
+    ensures value { result ≡ earned level r.now }
+    ensures most { result ≤ 10000000000000000 }
+{
+    let share = Share {
+        status: r.status,
+        balance: r.balance,
+        base: r.base,
+    };
+    pending(&share, level)
+}
+
+// What an account lacks.
+fn lacking(level: u64, who: &Address, r: AccountRow) -> Option<Rule>
+    requires { AccountInRange r }
+    ensures { result ≡ lacking level who.now r }
+{
+    let has = r.balance + earned(level, &r);
+    let needs = r.min_balance();
+    if has < needs {
+        Some(Rule::too_little(42, has, needs, who))
+    } else {
+        None
+    }
+}
+
+// The shortfall at a key.
+fn shortfall(
+    level: u64,
+    special: &Special,
+    key: &Key,
+    old: &Option<Row>,
+    now: &Option<Row>,
+) -> Option<Rule>
+    requires { IfSome now.now (InRange key.now) }
+    ensures { result ≡ shortfall level special.now key.now old.now now.now }
+{
+    match key {
+        Key::Resource(_, _) | Key::Box(_, _) => None,
+        Key::Account(who) => {
+            if *who == special.sink || *who == special.pool || now.is_none() || same_row(old, now) {
+                return None;
+            }
+            lacking(level, who, account_in(now))
+        }
+    }
+}
+
+// The shortfall at a key that may have changed.
+fn shortfall_at(
+    level: u64,
+    special: &Special,
+    key: &Key,
+    old: &Option<Row>,
+    rows: &BTreeMap<Key, Option<Row>>,
+) -> Option<Rule>
+    requires { IfSome (at rows.now.entries key.now) (λ row. IfSome row (IsKept key.now)) }
+    ensures { result ≡ shortfall level special.now key.now old.now (now_at rows.now.entries key.now) }
+{
+    match rows.get(key) {
+        Some(now) => shortfall(level, special, key, old, now),
+        None => shortfall(level, special, key, old, &None),
+    }
+}
+
+/// The first shortfall among the rows that changed, in the order of keys.
+pub fn first_shortfall(
+    level: u64,
+    special: &Special,
+    started: &BTreeMap<Key, Option<Row>>,
+    rows: &BTreeMap<Key, Option<Row>>,
+) -> Option<Rule>
+    requires { (q : Key) → IfSome (at rows.now.entries q) (λ row. IfSome row (IsKept q)) }
+    ensures first { result ≡ first_some (λ e. shortfall level special.now e.0 e.1 (now_at rows.now.entries e.0)) started.now.entries }
+    ensures ordered { IsOrdered key_cmp started.now }
+{
+    for (key, old) in started {
+        if let Some(rule) = shortfall_at(level, special, key, old, rows) {
+            return Some(rule);
+        }
+    }
+    None
+}

@@ -1,0 +1,453 @@
+//! A view with the rows changed so far.
+ghost use Rattle.std.specs.Prelude.{◌≡◌, ◌≤◌, ◌*◌, ◌^◌, ℕ, Option, Some, None, true, IfOk, IfSome, OnOk, OnErr, cond, Bool, not, map, All};
+ghost use Rattle.std.specs.List.Sorted.{IsStrictlySortedBy};
+ghost use Rattle.std.specs.BTreeMap.{is_at};
+ghost use Rattle.std.specs.FinMap.{get};
+ghost use Rattle.al_base.specs.Causes.{Rose};
+ghost use Rattle.al_base.specs.Keys.{key_cmp};
+ghost use Rattle.al_rewards.specs.Pending.{max_balance};
+ghost use Rattle.al_rows.specs.Finite.{set_at, or_below, overlaid};
+ghost use Rattle.al_rows.specs.Rows.{AccountInRange, CountsInRange, InRange, IsKept, RowMap, account, same_row};
+ghost use Rattle.al_moves.specs.Moves.{AreChanges, change_of, checked, closed, closed_at, credited, differing, give, has_no_counts, moved, paid, paid_amount, paid_close, put_account, rekeyed, take_in};
+ghost use Rattle.al_moves.specs.Works.{Does, IsNoRule, IsWork, Looks, at, nonzero, now_at};
+
+use crate::minimum::{earned, first_shortfall};
+use crate::{Change, Changes, Rule, Stop};
+use al_base::{Address, Key, Special, Status};
+use al_rewards::MAX_BALANCE;
+use al_rows::{AccountRow, Row, RowView, ViewFault, account_in, copy_row, same_row};
+use al_txn::Pay;
+use std::alloc::{AllocError, Global};
+use std::collections::BTreeMap;
+use std::marker::Model;
+
+const NO_ADDRESS: Address = Address([0; 32]);
+
+/// A view with the rows changed so far.
+#[derive(Drop)]
+pub struct Work<V: RowView> {
+    alloc: Global,
+    view: V,
+    level: u64,
+    round: u64,
+    special: Special,
+    rows: BTreeMap<Key, Option<Row>>,
+    blocks: BTreeMap<Key, Option<Row>>,
+    started: BTreeMap<Key, Option<Row>>,
+}
+
+impl<V: RowView> Model for Work<V> {
+    ghost use Rattle.al_rows.specs.Finite.{overlaid};
+    ghost use Rattle.al_moves.specs.Works.{IsWork, Worked};
+    ghost use Rattle.std.specs.FinMap as map;
+    ghost use Rattle.std.specs.Coded.{codes};
+    ghost use Rattle.al_base.specs.Keys.{key_cmp};
+    ghost use Rattle.al_base.specs.contracts.key.Key as key;
+    ghost use Rattle.al_rows.specs.contracts.row.Row as row;
+
+    ghost Value = { Worked };
+
+    ghost coded = { Prim.hlevel (codes, map.code {R = key_cmp} key.the_row.coded row.the_row.coded) };
+
+    ghost view = { λ w. record {
+      block = V.rows w.view;
+      start = overlaid w.started.entries (overlaid w.rows.entries (V.rows w.view));
+      now = overlaid w.rows.entries (V.rows w.view);
+      level = w.level;
+      round = w.round;
+      special = w.special;
+      failures = V.failures w.view;
+      lender = V.lender w.view;
+    } };
+
+    ghost invariant = { λ w. IsWork V.tells (V.rows w.view) w.rows.entries w.blocks.entries w.started.entries };
+}
+
+// The row that a map has under a key.
+fn kept_at(
+    alloc: Global,
+    rows: &BTreeMap<Key, Option<Row>>,
+    key: &Key,
+) -> Result<Option<Option<Row>>, AllocError>
+    ensures { IfOk result (λ r. r ≡ at rows.now.entries key.now) }
+{
+    match rows.get(key) {
+        None => Ok(None),
+        Some(row) => Ok(Some(copy_row(alloc, row)?)),
+    }
+}
+
+// Puts a row into a map.
+fn put(rows: &mut BTreeMap<Key, Option<Row>>, key: &Key, row: Option<Row>) -> Result<(), AllocError>
+    ensures ok { OnOk result ((q : _) → at rows.new.entries q ≡ cond (is_at (key_cmp key.now) q) (Some row) (at rows.old.entries q)) }
+    ensures err { OnErr result (rows.new.entries ≡ rows.old.entries) }
+{
+    match rows.insert(*key, row) {
+        Ok(_) => Ok(()),
+        Err(_) => Err(AllocError),
+    }
+}
+
+// Puts a row into a map that has none under the key.
+fn put_new(
+    rows: &mut BTreeMap<Key, Option<Row>>,
+    key: &Key,
+    row: Option<Row>,
+) -> Result<(), AllocError>
+    ensures ok { OnOk result ((q : _) → at rows.new.entries q ≡ cond (is_at (key_cmp key.now) q) (Some (or_below (at rows.old.entries key.now) row)) (at rows.old.entries q)) }
+    ensures err { OnErr result (rows.new.entries ≡ rows.old.entries) }
+{
+    if rows.contains_key(key) {
+        return Ok(());
+    }
+    put(rows, key, row)
+}
+
+impl<V: RowView> Work<V> {
+    /// A work that has changed nothing, at a reward level, in a round.
+    pub fn new(alloc: Global, view: V, special: Special, level: u64, round: u64) -> Work<V>
+        ensures { result ≡ record { block = V.rows view; start = V.rows view; now = V.rows view; level = level; round = round; special = special; failures = V.failures view; lender = V.lender view } }
+    {
+        Work {
+            alloc,
+            view,
+            level,
+            round,
+            special,
+            rows: BTreeMap::new(alloc),
+            blocks: BTreeMap::new(alloc),
+            started: BTreeMap::new(alloc),
+        }
+    }
+
+    /// Marks the start of a transaction.
+    pub fn begin(&mut self)
+        ensures { self.new ≡ record self.old { start = self.old.now } }
+    {
+        self.started = BTreeMap::new(self.alloc);
+    }
+
+    /// The row with the changes so far.
+    pub fn row(&mut self, key: &Key) -> Result<Option<Row>, Stop<V::Fault>>
+        ensures looks { Looks V.tells self.old self.new result }
+        ensures value { V.tells ≡ true → IfOk result (λ row. row ≡ get self.old.now key.now) }
+        ensures range { IfOk result (λ row. IfSome row (InRange key.now)) }
+    {
+        match kept_at(self.alloc, &self.rows, key) {
+            Ok(Some(row)) => return Ok(row),
+            Ok(None) => {}
+            Err(_) => return Err(Stop::Memory),
+        }
+        match self.view.row(key) {
+            Ok(row) => Ok(row),
+            Err(ViewFault::Failed(fault)) => Err(Stop::View(fault)),
+            Err(ViewFault::Memory) => Err(Stop::Memory),
+        }
+    }
+
+    /// Makes this the row under a key, a zero row being none.
+    pub fn set(&mut self, key: &Key, row: Option<Row>) -> Result<(), Stop<V::Fault>>
+        requires { IfSome row (InRange key.now) }
+        ensures done { Does V.tells (Ok (set_at self.old.now key.now (nonzero row))) self.old self.new result }
+        ensures no_rule { IsNoRule result }
+    {
+        let old = self.row(key)?;
+        let row = nonzero(key, row);
+        match set_in(
+            self.alloc,
+            &mut self.rows,
+            &mut self.blocks,
+            &mut self.started,
+            key,
+            row,
+            old,
+        ) {
+            Ok(()) => Ok(()),
+            Err(AllocError) => Err(Stop::Memory),
+        }
+    }
+}
+
+impl<V: RowView> Work<V> {
+    // The account with its pending rewards given to it.
+    fn credited(&mut self, who: &Address) -> Result<AccountRow, Stop<V::Fault>>
+        ensures looks { Looks V.tells self.old self.new result }
+        ensures value { V.tells ≡ true → IfOk result (λ r. r ≡ credited self.old.level (account self.old.now who.now)) }
+        ensures range { IfOk result (λ r. (r.balance ≤ 2 * max_balance) × CountsInRange r) }
+    {
+        let row = self.row(&Key::Account(*who))?;
+        Ok(credited(self.level, account_in(&row)))
+    }
+
+    // Puts an account, unless its balance passes the most.
+    fn put_account(&mut self, who: &Address, r: AccountRow) -> Result<(), Stop<V::Fault>>
+        requires { CountsInRange r }
+        ensures { Does V.tells (put_account self.old.now who.now r) self.old self.new result }
+    {
+        if r.balance > MAX_BALANCE {
+            return Err(Stop::Rule(Rule::of_account(41, who)));
+        }
+        self.set(&Key::Account(*who), Some(Row::Account(r)))
+    }
+}
+
+impl<V: RowView> Work<V> {
+    // An account gives an amount.
+    #[tactic(auto, unfolding(crate::specs::Moves::give))]
+    fn give(&mut self, who: &Address, amount: u64) -> Result<(), Stop<V::Fault>>
+        ensures { Does V.tells (give self.old.level who.now amount self.old.now) self.old self.new result }
+    {
+        let r = self.credited(who)?;
+        if r.balance < amount {
+            return Err(Stop::Rule(Rule::too_little(40, r.balance, amount, who)));
+        }
+        self.put_account(
+            who,
+            AccountRow {
+                balance: r.balance - amount,
+                ..r
+            },
+        )
+    }
+
+    // An account takes an amount in.
+    #[tactic(auto, unfolding(crate::specs::Moves::take_in))]
+    fn take_in(&mut self, who: &Address, amount: u64) -> Result<(), Stop<V::Fault>>
+        ensures { Does V.tells (take_in self.old.level who.now amount self.old.now) self.old self.new result }
+    {
+        let r = self.credited(who)?;
+        if r.balance.saturating_add(amount) > MAX_BALANCE {
+            return Err(Stop::Rule(Rule::of_account(41, who)));
+        }
+        self.put_account(
+            who,
+            AccountRow {
+                balance: r.balance + amount,
+                ..r
+            },
+        )
+    }
+
+    /// Moves an amount from one account to another.
+    #[tactic(auto, unfolding(crate::specs::Moves::moved))]
+    pub fn move_algos(
+        &mut self,
+        from: &Address,
+        to: &Address,
+        amount: u64,
+    ) -> Result<(), Stop<V::Fault>>
+        ensures { Does V.tells (moved self.old.level from.now to.now amount self.old.now) self.old self.new result }
+    {
+        self.give(from, amount)?;
+        self.take_in(to, amount)
+    }
+
+    // The account, a missing one being the zero row.
+    fn account(&mut self, who: &Address) -> Result<AccountRow, Stop<V::Fault>>
+        ensures looks { Looks V.tells self.old self.new result }
+        ensures value { V.tells ≡ true → IfOk result (λ r. r ≡ account self.old.now who.now) }
+        ensures range { IfOk result (λ r. AccountInRange r) }
+    {
+        let row = self.row(&Key::Account(*who))?;
+        Ok(account_in(&row))
+    }
+
+    // The whole rest goes to the close address, and then the row.
+    #[tactic(auto, unfolding(crate::specs::Moves::closed_at))]
+    fn close_at(&mut self, who: &Address, to: &Address, r: AccountRow) -> Result<(), Stop<V::Fault>>
+        requires { AccountInRange r }
+        ensures { Does V.tells (closed_at self.old.level who.now to.now r self.old.now) self.old self.new result }
+    {
+        if *to == *who || !has_no_counts(&r) {
+            return Err(Stop::Rule(Rule::of_account(43, who)));
+        }
+        self.move_algos(who, to, credited(self.level, r).balance)?;
+        self.set(&Key::Account(*who), None)
+    }
+
+    #[tactic(auto, unfolding(crate::specs::Moves::closed))]
+    fn close(&mut self, who: &Address, to: &Address) -> Result<(), Stop<V::Fault>>
+        ensures { Does V.tells (closed self.old.level who.now to.now self.old.now) self.old self.new result }
+    {
+        let r = self.account(who)?;
+        self.close_at(who, to, r)
+    }
+
+    #[tactic(auto, unfolding(crate::specs::Moves::paid_amount))]
+    fn pay_amount(&mut self, who: &Address, p: &Pay) -> Result<(), Stop<V::Fault>>
+        ensures { Does V.tells (paid_amount self.old.level who.now p.now self.old.now) self.old self.new result }
+    {
+        if p.amount == 0 && p.receiver == NO_ADDRESS {
+            return Ok(());
+        }
+        self.move_algos(who, &p.receiver, p.amount)
+    }
+
+    #[tactic(auto, unfolding(crate::specs::Moves::paid_close))]
+    fn pay_close(&mut self, who: &Address, p: &Pay) -> Result<(), Stop<V::Fault>>
+        ensures { Does V.tells (paid_close self.old.level who.now p.now self.old.now) self.old self.new result }
+    {
+        if p.close == NO_ADDRESS {
+            return Ok(());
+        }
+        self.close(who, &p.close)
+    }
+
+    /// The body of a payment.
+    #[tactic(auto, unfolding(crate::specs::Moves::paid))]
+    pub fn pay(&mut self, who: &Address, p: &Pay) -> Result<(), Stop<V::Fault>>
+        ensures { Does V.tells (paid self.old.level who.now p.now self.old.now) self.old self.new result }
+    {
+        self.pay_amount(who, p)?;
+        self.pay_close(who, p)
+    }
+
+    /// Each account that differs from before the transaction keeps its minimum.
+    pub fn check_minimum(&mut self) -> Result<(), Stop<V::Fault>>
+        ensures { Does V.tells (checked self.old.level self.old.special self.old.start self.old.now) self.old self.new result }
+    {
+        match first_shortfall(self.level, &self.special, &self.started, &self.rows) {
+            Some(rule) => Err(Stop::Rule(rule)),
+            None => Ok(()),
+        }
+    }
+
+    /// Sets who signs for an account, itself where that is its own address. A zero address
+    /// changes nothing.
+    #[tactic(auto, unfolding(crate::specs::Moves::rekeyed))]
+    pub fn rekey(&mut self, who: &Address, to: &Address) -> Result<(), Stop<V::Fault>>
+        ensures { Does V.tells (rekeyed who.now to.now self.old.now) self.old self.new result }
+    {
+        if *to == NO_ADDRESS {
+            return Ok(());
+        }
+        let r = self.account(who)?;
+        let auth = if *to == *who { NO_ADDRESS } else { *to };
+        self.put_account(who, AccountRow { auth, ..r })
+    }
+}
+
+// Whether an account has no asset, application, schema entry, extra page or box.
+fn has_no_counts(r: &AccountRow) -> bool
+    ensures { result ≡ has_no_counts r.now }
+{
+    r.assets_held == 0
+        && r.assets_created == 0
+        && r.apps_created == 0
+        && r.apps_opted == 0
+        && r.extra_pages == 0
+        && r.uints == 0
+        && r.byte_slices == 0
+        && r.boxes == 0
+        && r.box_bytes == 0
+}
+
+// An account with its pending rewards given to it.
+fn credited(level: u64, r: AccountRow) -> AccountRow
+    requires { AccountInRange r }
+    ensures value { result ≡ credited level r }
+    ensures range { (result.balance ≤ 2 * max_balance) × CountsInRange result }
+{
+    if r.status == Status::NotParticipating {
+        return r;
+    }
+    AccountRow {
+        balance: r.balance + earned(level, &r),
+        base: level,
+        ..r
+    }
+}
+
+impl<V: RowView> Work<V> {
+    /// The same as `finish`, and the view.
+    pub fn end(self) -> (Result<Changes, AllocError>, V)
+        ensures changes { V.tells ≡ true → IfOk result.0 (λ cs. AreChanges self.block self.now (map change_of cs)) }
+        ensures ordered { IfOk result.0 (λ cs. IsStrictlySortedBy key_cmp (map (λ c. c.key) cs)) }
+        ensures kept { IfOk result.0 (λ cs. All (λ c. IfSome c.row (IsKept c.key)) cs) }
+        ensures failures { V.failures result.1 ≡ self.failures }
+        ensures lender { V.lender result.1 ≡ self.lender }
+    {
+        let Work {
+            alloc,
+            view,
+            rows,
+            blocks,
+            level: _,
+            round: _,
+            special: _,
+            started: _,
+        } = self;
+        (changes(alloc, rows, &blocks), view)
+    }
+
+    /// The rows that differ from before the block, in the order of keys.
+    pub fn finish(self) -> Result<Changes, AllocError>
+        ensures changes { V.tells ≡ true → IfOk result (λ cs. AreChanges self.block self.now (map change_of cs)) }
+        ensures ordered { IfOk result (λ cs. IsStrictlySortedBy key_cmp (map (λ c. c.key) cs)) }
+        ensures kept { IfOk result (λ cs. All (λ c. IfSome c.row (IsKept c.key)) cs) }
+    {
+        self.end().0
+    }
+}
+
+// Those rows that differ from the ones before.
+fn changes(
+    alloc: Global,
+    rows: BTreeMap<Key, Option<Row>>,
+    blocks: &BTreeMap<Key, Option<Row>>,
+) -> Result<Changes, AllocError>
+    ensures items { IfOk result (λ cs. map change_of cs ≡ differing blocks.now.entries rows.entries) }
+    ensures ordered { OnOk result (IsStrictlySortedBy key_cmp (map (λ e. e.0) rows.entries)) }
+{
+    let mut out = Changes::new(alloc);
+    for (key, row) in rows {
+        if differs(blocks, &key, &row) {
+            out.push(Change { key, row })?;
+        }
+    }
+    Ok(out)
+}
+
+// Whether a row differs from the one before.
+fn differs(before: &BTreeMap<Key, Option<Row>>, key: &Key, row: &Option<Row>) -> bool
+    ensures { result ≡ not (same_row (now_at before.now.entries key.now) row.now) }
+{
+    match before.get(key) {
+        Some(old) => !same_row(old, row),
+        None => !same_row(&None, row),
+    }
+}
+
+// A zero row is no row.
+fn nonzero(key: &Key, row: Option<Row>) -> Option<Row>
+    requires { IfSome row (InRange key.now) }
+    ensures value { result ≡ nonzero row }
+    ensures kept { IfSome result (IsKept key.now) }
+{
+    match row {
+        Some(row) => row.unless_zero(),
+        None => None,
+    }
+}
+
+// Sets a row among those now, and keeps what stood there before the transaction and before the block.
+fn set_in(
+    alloc: Global,
+    rows: &mut BTreeMap<Key, Option<Row>>,
+    blocks: &mut BTreeMap<Key, Option<Row>>,
+    started: &mut BTreeMap<Key, Option<Row>>,
+    key: &Key,
+    row: Option<Row>,
+    old: Option<Row>,
+) -> Result<(), AllocError>
+    requires { IfSome row (IsKept key.now) }
+    ensures work { (t : Bool) (m : RowMap) → IsWork t m rows.old.entries blocks.old.entries started.old.entries → (t ≡ true → old ≡ get (overlaid rows.old.entries m) key.now) → IsWork t m rows.new.entries blocks.new.entries started.new.entries }
+    ensures now { OnOk result ((m : RowMap) → overlaid rows.new.entries m ≡ set_at (overlaid rows.old.entries m) key.now row) }
+    ensures start { OnOk result ((m : RowMap) → old ≡ get (overlaid rows.old.entries m) key.now → overlaid started.new.entries (overlaid rows.new.entries m) ≡ overlaid started.old.entries (overlaid rows.old.entries m)) }
+{
+    let block = copy_row(alloc, &old)?;
+    put_new(blocks, key, block)?;
+    put(rows, key, row)?;
+    put_new(started, key, old)?;
+    Ok(())
+}

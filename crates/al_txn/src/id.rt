@@ -1,0 +1,60 @@
+//! The spellings of transactions, and the ids of transactions and groups.
+ghost use Rattle.std.specs.Prelude.{◌≡◌, ◌++◌, IfOk, OnOk};
+ghost use Rattle.al_msgpack.specs.declared.val.Val.TheVariants as values;
+ghost use Rattle.al_msgpack.specs.Spelled.{spelled};
+ghost use Rattle.al_digest.specs.Digests.{digest_of};
+ghost use Rattle.al_txn.specs.Txn.{txn};
+ghost use Rattle.al_txn.specs.Ids.{txid_of, group_id_of, ungrouped};
+
+use crate::record::{entries_in_group, txn_entries};
+use crate::{Item, Txn};
+use al_base::{Bytes, Hash};
+use al_digest::{Prefix, digest};
+use al_msgpack::{Entries, Val, Vals, write};
+use al_record::put_list;
+use std::alloc::{AllocError, Global};
+
+/// Appends the spelling of a transaction's record.
+pub fn encode_txn(alloc: Global, t: &Txn, out: &mut Vec<u8>) -> Result<(), AllocError>
+    ensures { OnOk result (out.new.items ≡ out.old.items ++ spelled (values.Map (txn.write t.now))) }
+{
+    write(&Val::Map(txn_entries(alloc, t)?), out)
+}
+
+/// The digest of a value's spelling.
+pub fn digest_val(alloc: Global, prefix: Prefix, v: &Val) -> Result<Hash, AllocError>
+    ensures { IfOk result (λ h. h ≡ digest_of prefix (spelled v.now)) }
+{
+    let mut bytes = Vec::new(alloc);
+    write(v, &mut bytes)?;
+    Ok(digest(prefix, bytes.as_slice()))
+}
+
+/// The id of a transaction. Effects beside it do not count.
+pub fn txid(alloc: Global, t: &Txn) -> Result<Hash, AllocError>
+    ensures { IfOk result (λ h. h ≡ txid_of t.now) }
+{
+    digest_val(alloc, Prefix::Tx, &Val::Map(txn_entries(alloc, t)?))
+}
+
+/// The id that a transaction has outside of its group.
+fn lone_txid(alloc: Global, t: &Txn) -> Result<Hash, AllocError>
+    ensures { IfOk result (λ h. h ≡ txid_of (ungrouped t.now)) }
+{
+    let entries = entries_in_group(alloc, t, &[0; 32])?;
+    digest_val(alloc, Prefix::Tx, &Val::Map(entries))
+}
+
+/// The id of a group with these members, from their ids outside of the group.
+pub fn group_id(alloc: Global, items: &[Item]) -> Result<Hash, AllocError>
+    ensures { IfOk result (λ h. h ≡ group_id_of items.now) }
+{
+    let mut ids = Vals::new(alloc);
+    for item in items {
+        let id = lone_txid(alloc, &item.txn)?;
+        ids.push(Val::Bin(Bytes::of(alloc, &id)?))?;
+    }
+    let mut entries = Entries::new(alloc);
+    put_list(alloc, &mut entries, "txlist", ids)?;
+    digest_val(alloc, Prefix::Group, &Val::Map(entries))
+}
