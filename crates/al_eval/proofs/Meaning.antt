@@ -1,5 +1,5 @@
 -- What a value that is read says of the input.
-use Rattle.std.proofs.Common.{◌≡◌, List, ℕ, None, Result, Ok, Err, sym, ap, ◌∙◌, subst}
+use Rattle.std.proofs.Common.{◌≡◌, List, ℕ, None, Err, sym, ap, ◌∙◌, subst}
 use Rattle.al_msgpack.specs.declared.val.Val.{Val, out-Val}
 use Rattle.al_msgpack.specs.declared.val.Val.TheOpen.{Val-F}
 use Rattle.al_msgpack.specs.declared.val.Entry.{Entry}

@@ -1,5 +1,5 @@
 -- The genesis record of this program: what it says, and what makes it a good one.
-use Rattle.std.specs.Prelude.{◌≡◌, ◌==◌, ℕ, suc, ◌+◌, ◌^◌, ◌≤◌, ◌<◌, Bool, true, false, not, ◌&&◌, nat_lt, List, [], ◌∷◌, length, map, take, replicate, sum, codes, Option, Some, None, Result, Ok, Err, if◌then◌else◌}
+use Rattle.std.specs.Prelude.{◌≡◌, ◌==◌, ℕ, suc, ◌^◌, ◌≤◌, ◌<◌, Bool, true, false, not, ◌&&◌, nat_lt, List, [], ◌∷◌, length, map, take, replicate, sum, codes, Some, None, Result, Ok, Err, if◌then◌else◌}
 use Rattle.std.specs.Str.{bytes_eq}
 use Rattle.std.specs.List.{list_all, list_any}
 use Rattle.al_base.specs.declared.account.Status.{Status}
@@ -232,6 +232,18 @@ abbrev pub GenesisMeansUnless : List ℕ → Result Genesis GenesisFault → Typ
 GenesisMeansUnless input (Err faults.Memory) = Unit {0}
 GenesisMeansUnless input (Ok g) = IsGenesis input g
 GenesisMeansUnless input (Err f) = GenesisMeans input (Err f)
+
+-- the number that a fault is shown by
+abbrev pub number_of : GenesisFault → ℕ
+number_of (faults.Decode f) = 1
+number_of (faults.Field name) = 2
+number_of (faults.Range name) = 3
+number_of (faults.Order place) = 4
+number_of faults.Special = 5
+number_of (faults.PoolLow balance) = 6
+number_of (faults.Minimum place) = 7
+number_of faults.TotalLarge = 8
+number_of faults.Memory = 9
 
 -- ---- a plain one
 

@@ -4,7 +4,7 @@ ghost use Rattle.std.specs.List.{list_all, list_any};
 ghost use Rattle.al_msgpack.specs.Places.{IsSpelling};
 ghost use Rattle.al_msgpack.specs.Rising.{canonical};
 ghost use Rattle.std.specs.Str.{bytes_eq};
-ghost use Rattle.al_eval.specs.Genesis.{GenesisMeansUnless, IsGenesisOf, first_header, first_row, is_plain, is_plain_row, votes, status_of, interval_of, least_balance};
+ghost use Rattle.al_eval.specs.Genesis.{GenesisMeansUnless, IsGenesisOf, first_header, first_row, is_plain, is_plain_row, votes, status_of, interval_of, least_balance, number_of};
 ghost use Rattle.al_eval.specs.declared.genesis.GenesisFault.TheVariants.{Memory};
 
 use crate::genesis_checks::{LEAST_BALANCE, check_fields};
@@ -66,6 +66,25 @@ pub enum GenesisFault {
     TotalLarge,
     /// Want of memory.
     Memory,
+}
+
+impl GenesisFault {
+    /// Its number, from 1 on in the order above.
+    pub fn number(&self) -> u8
+        ensures { result ≡ number_of self.now }
+    {
+        match self {
+            GenesisFault::Decode(_) => 1,
+            GenesisFault::Field { name: _ } => 2,
+            GenesisFault::Range { name: _ } => 3,
+            GenesisFault::Order { place: _ } => 4,
+            GenesisFault::Special => 5,
+            GenesisFault::PoolLow { balance: _ } => 6,
+            GenesisFault::Minimum { place: _ } => 7,
+            GenesisFault::TotalLarge => 8,
+            GenesisFault::Memory => 9,
+        }
+    }
 }
 
 impl From<AllocError> for GenesisFault {

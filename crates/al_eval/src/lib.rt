@@ -20,3 +20,6 @@ pub use laws::{changes_lead, step_is_fair};
 pub use next::step_rows;
 pub use run::eval;
 pub use tail::{Entry, Tail};
+
+#[cfg(test)]
+mod genesis_tests;
