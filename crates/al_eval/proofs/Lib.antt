@@ -3,3 +3,4 @@ pub mod Meaning
 pub mod Ends
 pub mod Nexts
 pub mod Chains
+pub mod Starts

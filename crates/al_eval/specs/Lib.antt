@@ -3,3 +3,4 @@ pub mod Past
 pub mod Steps
 pub mod Next
 pub mod State
+pub mod Start

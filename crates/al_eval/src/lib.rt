@@ -11,6 +11,7 @@ mod laws;
 mod lent;
 mod next;
 mod run;
+mod start;
 mod tail;
 mod transact;
 
@@ -19,6 +20,7 @@ pub use genesis::{Genesis, GenesisFault, GenesisRow, GenesisRows};
 pub use laws::{changes_lead, step_is_fair};
 pub use next::step_rows;
 pub use run::eval;
+pub use start::start_rows;
 pub use tail::{Entry, Tail};
 
 #[cfg(test)]

@@ -24,7 +24,7 @@ use std::alloc::{AllocError, Global};
 use std::collections::BTreeMap;
 
 // Puts a row under a key.
-fn put(rows: &mut BTreeMap<Key, Stored>, key: &Key, stored: Stored) -> Result<(), AllocError>
+pub(crate) fn put(rows: &mut BTreeMap<Key, Stored>, key: &Key, stored: Stored) -> Result<(), AllocError>
     ensures { OnOk result ((q : _) → at rows.new.entries q ≡ cond (is_at (key_cmp key.now) q) (Some stored) (at rows.old.entries q)) }
 {
     match rows.insert(*key, stored) {
@@ -34,7 +34,7 @@ fn put(rows: &mut BTreeMap<Key, Stored>, key: &Key, stored: Stored) -> Result<()
 }
 
 // Takes the row under a key away.
-fn take_away(rows: &mut BTreeMap<Key, Stored>, key: &Key)
+pub(crate) fn take_away(rows: &mut BTreeMap<Key, Stored>, key: &Key)
     ensures { (q : _) → at rows.new.entries q ≡ cond (is_at (key_cmp key.now) q) None (at rows.old.entries q) }
 {
     let _ = rows.remove(key);

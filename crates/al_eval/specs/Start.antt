@@ -1,0 +1,30 @@
+-- The state that a genesis begins.
+use Rattle.std.specs.Prelude.{ℕ, List, [], ◌∷◌, option_map}
+use Rattle.std.specs.declared.option.Option.{Option}
+use Rattle.std.specs.FinMap.{FinMap, from_entries}
+use Rattle.al_base.specs.declared.key.Key.TheVariants.{Account}
+use Rattle.al_base.specs.Keys.{key_cmp}
+use Rattle.al_rows.specs.declared.row.Row.TheVariants as row
+use Rattle.al_rows.specs.declared.stored.Stored.{Stored}
+use Rattle.al_rows.specs.Finite.{set_at}
+use Rattle.al_rows.specs.Rows.{unless_zero}
+use Rattle.al_eval.specs.declared.genesis.GenesisRow.{GenesisRow}
+use Rattle.al_eval.specs.declared.genesis.Genesis.{Genesis}
+use Rattle.al_eval.specs.Next.{stored_at}
+use Rattle.al_eval.specs.State.{State}
+
+-- the rows with an account's, which no block has changed; a zero row is none
+abbrev pub with_account : FinMap key_cmp Stored → GenesisRow → FinMap key_cmp Stored
+with_account m a = set_at m (Account a.address) (stored_at 0 (unless_zero (row.Account a.row)))
+
+-- the same with those of more accounts
+abbrev pub with_accounts : FinMap key_cmp Stored → List GenesisRow → FinMap key_cmp Stored
+with_accounts m [] = m
+with_accounts m (a ∷ more) = with_accounts (with_account m a) more
+
+abbrev pub start_rows : List GenesisRow → FinMap key_cmp Stored
+start_rows accounts = with_accounts (from_entries []) accounts
+
+-- the state of round 0
+abbrev pub start : Genesis → State
+start g = record { chain = g.chain; header = g.header; rows = start_rows g.accounts; past = [] }

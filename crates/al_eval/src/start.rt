@@ -1,0 +1,52 @@
+//! The rows that a genesis begins with.
+ghost use Rattle.std.specs.Prelude.{◌≡◌, All, IfOk, OnOk, cond};
+ghost use Rattle.std.specs.FinMap.{from_entries};
+ghost use Rattle.std.specs.BTreeMap.{is_at};
+ghost use Rattle.al_base.specs.Keys.{key_cmp};
+ghost use Rattle.al_base.specs.declared.key.Key.TheVariants.{Account};
+ghost use Rattle.al_moves.specs.Works.{at};
+ghost use Rattle.al_rows.specs.Rows.{AccountInRange, IsKept, unless_zero};
+ghost use Rattle.al_rows.specs.declared.row.Row.TheVariants as row;
+ghost use Rattle.al_eval.specs.Next.{stored_at};
+ghost use Rattle.al_eval.specs.Start.{start_rows};
+
+use crate::genesis::GenesisRow;
+use crate::next::{put, take_away};
+use al_base::Key;
+use al_rows::{Row, Stored};
+use std::alloc::{AllocError, Global};
+use std::collections::BTreeMap;
+
+// Puts the row of an account, a zero row being none.
+fn put_account(
+    rows: &mut BTreeMap<Key, Stored>,
+    account: &GenesisRow,
+) -> Result<(), AllocError>
+    ensures { OnOk result ((q : _) → at rows.new.entries q ≡ cond (is_at (key_cmp (Account account.now.address)) q) (stored_at 0 (unless_zero (row.Account account.now.row))) (at rows.old.entries q)) }
+{
+    let key = Key::Account(account.address);
+    match Row::Account(account.row).unless_zero() {
+        Some(row) => put(rows, &key, Stored { row, changed: 0 }),
+        None => {
+            take_away(rows, &key);
+            Ok(())
+        }
+    }
+}
+
+/// The rows of round 0: those of the accounts, which no block has changed.
+pub fn start_rows(
+    alloc: Global,
+    accounts: &[GenesisRow],
+) -> Result<BTreeMap<Key, Stored>, AllocError>
+    requires { All (λ a. AccountInRange a.row) accounts.now }
+    ensures value { IfOk result (λ rows. from_entries rows.entries ≡ start_rows accounts.now) }
+    ensures kept { IfOk result (λ rows. All (λ e. IsKept e.0 e.1.row) rows.entries) }
+{
+    let mut rows = BTreeMap::new(alloc);
+    for account in accounts {
+        put_account(&mut rows, account)?;
+    }
+    let _count = rows.len();
+    Ok(rows)
+}
