@@ -1,5 +1,5 @@
 -- What a block's changes lead to, and that no block makes or loses money.
-use Rattle.std.proofs.Common.{◌≡◌, ◌≢◌, refl, sym, ap, ap₂, ◌∙◌, subst, ℕ, ◌+◌, ◌≤◌, List, [], ◌∷◌, ◌++◌, Result, Ok, Err, Option, Some, None, Bool, true, false, if◌then◌else◌, nat_eq, nat_lt, ◌&&◌, ◌||◌, not, option_map, eqb-true, arith, IfSome, map}
+use Rattle.std.proofs.Common.{◌≡◌, ◌≢◌, refl, sym, ap, ◌∙◌, subst, ℕ, ◌+◌, ◌≤◌, List, [], ◌∷◌, ◌++◌, Result, Ok, Err, Option, Some, None, Bool, true, false, if◌then◌else◌, nat_lt, ◌||◌, option_map, eqb-true, arith, IfSome, map}
 use Rattle.std.specs.Option.{option_or}
 use Rattle.std.specs.List.{AllByRecursion}
 use Rattle.std.specs.FinMap.{FinMap, get, same_map}
@@ -17,20 +17,19 @@ use Rattle.al_rows.proofs.Maps.{get-map_entries}
 use Rattle.al_rows.proofs.Sames.{same_true}
 use Rattle.al_txn.specs.declared.body.Body.{Body}
 use Rattle.al_txn.specs.declared.body.Body.TheVariants as body
-use Rattle.al_txn.specs.declared.body.KeyReg.{KeyReg}
 use Rattle.al_txn.specs.declared.chain.Chain.{Chain}
 use Rattle.al_txn.specs.declared.txn.Txn.{Txn}
 use Rattle.al_txn.specs.declared.txn.Item.{Item}
 use Rattle.al_txn.specs.Form.{first_broken, common_tests, keyreg_tests, move_tests, config_tests, freeze_tests, tests_of, body_tests, form_fault}
 use Rattle.al_moves.specs.declared.rule.Rule.{Rule}
-use Rattle.al_moves.specs.Moves.{then_do, plain_rule, moved, rekeyed, paid, checked, unless_refused}
+use Rattle.al_moves.specs.Moves.{then_do, plain_rule, moved, rekeyed, unless_refused}
 use Rattle.al_moves.specs.Money.{money, IsFair}
 use Rattle.al_moves.proofs.Overlays.{get-now}
 use Rattle.al_moves.proofs.Monies.{moves_are_fair, fair_then}
 use Rattle.al_eval.specs.declared.before.Before.{Before}
 use Rattle.al_eval.specs.declared.tail.Entry.{Entry}
 use Rattle.al_eval.specs.Past.{entry_of, has_id}
-use Rattle.al_eval.specs.Steps.{Refusal, broken, header, first_fault, header_checks, rewards_checks, payset_fault, counter_fault, unless_fault, form_rule, fee_fault, window_fault, id_fault, held_until, lease_fault, item_fault, done_by, applied, transacted, at_place, all_items, block_rows}
+use Rattle.al_eval.specs.Steps.{Refusal, broken, header, first_fault, header_checks, rewards_checks, payset_fault, counter_fault, unless_fault, held_until, item_fault, done_by, applied, transacted, at_place, all_items, block_rows}
 use Rattle.al_eval.specs.State.{State, before_of, after, stamp, stamped, step, ChangesLead, StepIsFair}
 
 -- ---- the changes lead to the new rows

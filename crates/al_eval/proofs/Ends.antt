@@ -1,5 +1,5 @@
 -- What a step that ended answers.
-use Rattle.std.proofs.Common.{◌≡◌, ◌∙◌, refl, sym, ap, ap₂, subst, ℕ, List, map, Result, Ok, Err}
+use Rattle.std.proofs.Common.{◌≡◌, ◌∙◌, sym, ap, ap₂, subst, ℕ, List, map, Result, Ok, Err}
 use Rattle.std.specs.BTreeMap.{BTreeMap}
 use Rattle.std.specs.FinMap.{from_entries}
 use Rattle.al_base.specs.declared.key.Key.{Key}
@@ -17,7 +17,7 @@ use Rattle.al_eval.specs.declared.before.EvalRefusal.TheVariants as answer
 use Rattle.al_eval.specs.declared.tail.Entry.{Entry}
 use Rattle.al_eval.specs.Past.{entry_of}
 use Rattle.al_eval.specs.Next.{IsNext}
-use Rattle.al_eval.specs.Steps.{Refusal, broken, header, Gives, Evals, block_rows}
+use Rattle.al_eval.specs.Steps.{Refusal, Gives, Evals, block_rows}
 use Rattle.al_eval.specs.State.{State, Steps, after, step, stamped}
 use Rattle.al_eval.proofs.Nexts.{next_is}
 use Rattle.al_eval.proofs.Chains.{bare_stamped, block_keeps}

@@ -1,12 +1,11 @@
 -- Changes put into a map one after another.
-use Rattle.std.proofs.Common.{◌≡◌, ℕ, refl, sym, ap, ap₂, ◌∙◌, subst, List, [], ◌∷◌, map, Option, Some, None, Bool, true, false, cond, T, IfSome, All, option_map, if◌then◌else◌, Ordering, Less, Equal, Greater, is_eq, ◌&&◌, is_lt, drop, length, ◌<◌, ◌+◌, suc, get_or, arith}
+use Rattle.std.proofs.Common.{◌≡◌, ℕ, refl, sym, ap, ap₂, ◌∙◌, subst, List, [], ◌∷◌, map, Option, Some, None, Bool, true, false, cond, IfSome, All, option_map, if◌then◌else◌, Less, is_eq, drop, length, ◌<◌, ◌+◌, suc, get_or, arith}
 use Rattle.std.proofs.Math.Seq.{drop-cons}
 use Rattle.std.specs.List.{AllByRecursion}
 use Rattle.std.specs.List.Sorted.{IsStrictlySortedBy}
 use Rattle.std.proofs.lemmas.List.Elements.{All-from_recursion, recursion_from_All}
 use Rattle.std.specs.BTreeMap.{BTreeMap, is_at}
-use Rattle.std.specs.BTreeMap as tree
-use Rattle.std.specs.FinMap.{FinMap, get, from_entries, same_map}
+use Rattle.std.specs.FinMap.{get, from_entries, same_map}
 use Rattle.al_base.specs.declared.key.Key.{Key}
 use Rattle.al_base.specs.Keys.{key_cmp}
 use Rattle.al_rows.specs.declared.row.Row.{Row}

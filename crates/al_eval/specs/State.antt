@@ -20,7 +20,6 @@ use Rattle.al_txn.specs.declared.body.Body.{Body}
 use Rattle.al_txn.specs.declared.body.Body.TheVariants as body
 use Rattle.al_txn.specs.declared.chain.Chain.{Chain}
 use Rattle.al_txn.specs.declared.txn.Txn.{Txn}
-use Rattle.al_txn.specs.declared.txn.Item.{Item}
 use Rattle.al_moves.specs.declared.rule.Rule.{Rule}
 use Rattle.al_moves.specs.Moves.{then_do, AreChanges}
 use Rattle.al_moves.specs.Money.{money}

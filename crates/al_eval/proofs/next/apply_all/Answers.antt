@@ -1,11 +1,10 @@
-use Rattle.std.proofs.Common.{◌≡◌, ◌∙◌, sym, ap, subst, List, ◌∷◌, ◌+◌, map, drop, rules}
+use Rattle.std.proofs.Common.{◌≡◌, ◌∙◌, sym, ap, subst, List, ◌∷◌, ◌+◌, map, drop}
 use Rattle.std.specs.List.Sorted.{IsStrictlySortedBy}
-use Rattle.al_base.specs.declared.key.Key.{Key}
 use Rattle.al_base.specs.Keys.{key_cmp}
 use Rattle.al_rows.specs.Finite.{or_below}
 use Rattle.al_moves.specs.declared.change.Change.{Change}
 use Rattle.al_moves.specs.Works.{at}
-use Rattle.al_eval.specs.Next.{left_of, stored_at}
+use Rattle.al_eval.specs.Next.{left_of}
 use Rattle.al_eval.proofs.Nexts.{drop_at, later_changes, put_change}
 use Rattle.al_eval.proofs.next.apply_all.Goals as goal
 
