@@ -3,3 +3,5 @@ pub mod Meaning
 pub mod Ends
 pub mod Nexts
 pub mod Chains
+pub mod Exclusive
+pub mod Once
