@@ -1,5 +1,5 @@
 -- The conditions on a genesis record exclude each other.
-use Rattle.std.proofs.Common.{◌≡◌, ◌&&◌, ◌||◌, ℕ, zero, suc, ◌<◌, ◌≤◌, Bool, true, false, List, [], ◌∷◌, length, take, refl, sym, ap, ◌∙◌, arith, inl, inr}
+use Rattle.std.proofs.Common.{◌≡◌, ◌||◌, ℕ, zero, suc, ◌<◌, ◌≤◌, Bool, true, false, List, [], ◌∷◌, take, refl, sym, ap, ◌∙◌, arith, inl, inr}
 use Rattle.std.specs.List.{list_any}
 use Rattle.std.proofs.lemmas.Bool.{and_parts, and_from, cases_order}
 use Rattle.al_base.specs.declared.address.Address.{Address}
@@ -7,7 +7,7 @@ use Rattle.al_msgpack.specs.Rising.{rises}
 use Rattle.al_eval.specs.declared.genesis_fields.FirstAccount.{FirstAccount}
 use Rattle.al_eval.specs.declared.genesis.GenesisFault.{GenesisFault}
 use Rattle.al_eval.specs.declared.genesis.GenesisFault.TheVariants as faults
-use Rattle.al_eval.specs.Genesis.{addresses_of, is_poor, IsUnordered, IsFirstPoor, IsOrdered, HasSpecials, HasPool, HasNoPoor, IsSound, Breaks}
+use Rattle.al_eval.specs.Genesis.{addresses_of, is_poor, IsUnordered, IsFirstPoor, IsOrdered, IsSound, Breaks}
 
 clash : (b : Bool) → b ≡ true → b ≡ false → ⊥
 clash b t f = let e : true ≡ false = sym t ∙ f in absurd cc

@@ -1,5 +1,5 @@
 -- An input has one meaning.
-use Rattle.std.proofs.Common.{◌≡◌, ℕ, ◌≤◌, ◌^◌, List, [], map, codes, Option, Some, None, Result, Ok, Err, refl, sym, ap, ap₂, subst, ◌∙◌}
+use Rattle.std.proofs.Common.{◌≡◌, ℕ, ◌≤◌, ◌^◌, List, [], map, codes, Some, None, Result, Ok, Err, refl, sym, ap, ap₂, subst, ◌∙◌}
 use Rattle.std.proofs.Math.Bridge.{le_prop}
 use Rattle.al_base.specs.declared.account.Special.{Special}
 use Rattle.al_base.specs.declared.address.Address.{Address}
@@ -7,9 +7,7 @@ use Rattle.al_block.specs.declared.header.Header.{Header}
 use Rattle.al_digest.specs.Digests.{digest_of}
 use Rattle.al_digest.specs.declared.hashing.Prefix.TheVariants as prefixes
 use Rattle.al_msgpack.specs.declared.val.Val.{Val, out-Val}
-use Rattle.al_msgpack.specs.declared.val.Val.TheVariants as values
 use Rattle.al_msgpack.specs.declared.val.Val.TheViews as views
-use Rattle.al_msgpack.specs.declared.val.Entry.{Entry}
 use Rattle.al_msgpack.specs.declared.fault.DecodeFault.{DecodeFault}
 use Rattle.al_msgpack.specs.Places.{IsSpelling, Means}
 use Rattle.al_msgpack.proofs.Exact.{Fit}
@@ -18,7 +16,6 @@ use Rattle.al_msgpack.proofs.Verdicts.{means_verdict, one_value}
 use Rattle.al_record.specs.declared.fault.Fault.{Fault}
 use Rattle.al_record.specs.declared.fault.Fault.TheVariants.{Field, Range}
 use Rattle.al_record.specs.Columns.{IsRecord, member_open, map_of, list_of, value_at, members_fault}
-use Rattle.al_record.specs.Laws.{AllAgree}
 use Rattle.al_record.proofs.Engine.{first_none}
 use Rattle.al_record.proofs.Laws.{record_shows}
 use Rattle.al_record.proofs.Same.{Determined}
@@ -32,7 +29,7 @@ use Rattle.al_eval.specs.declared.genesis.GenesisRow.{GenesisRow}
 use Rattle.al_eval.specs.declared.genesis.Genesis.{Genesis}
 use Rattle.al_eval.specs.declared.genesis.GenesisFault.{GenesisFault}
 use Rattle.al_eval.specs.declared.genesis.GenesisFault.TheVariants as faults
-use Rattle.al_eval.specs.Genesis.{row, row_fields, account, account_fields, genesis, genesis_fields, first_row, interval_of, zeros, first_header, IsSound, Breaks, IsGood, IsRefused, IsRecordOf, IsNoRecord, IsGenesis, IsGenesisOf, IsRefusal, GenesisMeans, GenesisMeansUnless, GenesisAnswers}
+use Rattle.al_eval.specs.Genesis.{row, row_fields, account, account_fields, genesis, genesis_fields, first_row, interval_of, zeros, first_header, IsSound, Breaks, IsRecordOf, IsNoRecord, IsGenesis, IsGenesisOf, IsRefusal, GenesisMeans, GenesisMeansUnless, GenesisAnswers}
 use Rattle.al_eval.proofs.Exclusive.{sound_breaks, breaks_once}
 
 -- ---- a record determines its values
