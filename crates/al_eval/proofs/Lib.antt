@@ -4,3 +4,5 @@ pub mod Ends
 pub mod Nexts
 pub mod Chains
 pub mod Starts
+pub mod Exclusive
+pub mod Once

@@ -87,8 +87,8 @@ abbrev pub has_special : Address → List FirstAccount → Bool
 has_special who accounts = list_any (λ a. is_at who a && (a.row.status == 2)) accounts
 
 -- sink and pool are two such accounts
-abbrev pub has_both : GenesisRecord → Bool
-has_both g = not (bytes_eq g.sink.0 g.pool.0) && (has_special g.sink g.accounts && has_special g.pool g.accounts)
+abbrev pub has_both : Address → Address → List FirstAccount → Bool
+has_both sink pool accounts = not (bytes_eq sink.0 pool.0) && (has_special sink accounts && has_special pool accounts)
 
 -- the balance at an address
 abbrev pub balance_of : Address → List FirstAccount → ℕ
@@ -99,8 +99,8 @@ balance_of who (a ∷ accounts) = if is_at who a then a.row.balance else balance
 abbrev pub is_poor : Address → Address → FirstAccount → Bool
 is_poor sink pool a = not (is_at sink a) && (not (is_at pool a) && nat_lt a.row.balance least_balance)
 
-abbrev pub has_poor : GenesisRecord → Bool
-has_poor g = list_any (is_poor g.sink g.pool) g.accounts
+abbrev pub has_poor : Address → Address → List FirstAccount → Bool
+has_poor sink pool accounts = list_any (is_poor sink pool) accounts
 
 abbrev pub money_of : List FirstAccount → ℕ
 money_of accounts = sum (map (λ a. a.row.balance) accounts)
@@ -118,29 +118,35 @@ pub record IsFirstPoor (sink pool : Address) (accounts : List FirstAccount) (pla
   pub there : list_any (is_poor sink pool) (take (suc place) accounts) ≡ true
 
 -- The conditions in their order, each with those before it.
-abbrev pub IsOrdered : GenesisRecord → Type 0
-IsOrdered g = rises (addresses_of g.accounts) ≡ true
+abbrev pub IsOrdered : List FirstAccount → Type 0
+IsOrdered accounts = rises (addresses_of accounts) ≡ true
 
-abbrev pub HasSpecials : GenesisRecord → Type 0
-HasSpecials g = IsOrdered g × (has_both g ≡ true)
+abbrev pub HasSpecials : Address → Address → List FirstAccount → Type 0
+HasSpecials sink pool accounts = IsOrdered accounts × (has_both sink pool accounts ≡ true)
 
-abbrev pub HasPool : GenesisRecord → Type 0
-HasPool g = HasSpecials g × (least_balance ≤ balance_of g.pool g.accounts)
+abbrev pub HasPool : Address → Address → List FirstAccount → Type 0
+HasPool sink pool accounts = HasSpecials sink pool accounts × (least_balance ≤ balance_of pool accounts)
 
-abbrev pub HasNoPoor : GenesisRecord → Type 0
-HasNoPoor g = HasPool g × (has_poor g ≡ false)
+abbrev pub HasNoPoor : Address → Address → List FirstAccount → Type 0
+HasNoPoor sink pool accounts = HasPool sink pool accounts × (has_poor sink pool accounts ≡ false)
 
-abbrev pub IsGood : GenesisRecord → Type 0
-IsGood g = HasNoPoor g × (money_of g.accounts ≤ most_money)
+abbrev pub IsSound : Address → Address → List FirstAccount → Type 0
+IsSound sink pool accounts = HasNoPoor sink pool accounts × (money_of accounts ≤ most_money)
 
 -- the first condition that does not hold
+abbrev pub Breaks : Address → Address → List FirstAccount → GenesisFault → Type 0
+Breaks sink pool accounts (faults.Order place) = IsUnordered accounts place
+Breaks sink pool accounts faults.Special = IsOrdered accounts × (has_both sink pool accounts ≡ false)
+Breaks sink pool accounts (faults.PoolLow balance) = HasSpecials sink pool accounts × (balance ≡ balance_of pool accounts) × (balance < least_balance)
+Breaks sink pool accounts (faults.Minimum place) = HasPool sink pool accounts × IsFirstPoor sink pool accounts place
+Breaks sink pool accounts faults.TotalLarge = HasNoPoor sink pool accounts × (most_money < money_of accounts)
+Breaks sink pool accounts f = ⊥
+
+abbrev pub IsGood : GenesisRecord → Type 0
+IsGood g = IsSound g.sink g.pool g.accounts
+
 abbrev pub IsRefused : GenesisRecord → GenesisFault → Type 0
-IsRefused g (faults.Order place) = IsUnordered g.accounts place
-IsRefused g faults.Special = IsOrdered g × (has_both g ≡ false)
-IsRefused g (faults.PoolLow balance) = HasSpecials g × (balance ≡ balance_of g.pool g.accounts) × (balance < least_balance)
-IsRefused g (faults.Minimum place) = HasPool g × IsFirstPoor g.sink g.pool g.accounts place
-IsRefused g faults.TotalLarge = HasNoPoor g × (most_money < money_of g.accounts)
-IsRefused g f = ⊥
+IsRefused g f = Breaks g.sink g.pool g.accounts f
 
 abbrev pub Checks : GenesisRecord → Result (Unit {0}) GenesisFault → Type 0
 Checks g (Ok u) = IsGood g
@@ -225,6 +231,7 @@ GenesisMeans input (Ok g) = IsGenesis input g
 GenesisMeans input (Err (faults.Decode f)) = Means input (Err f)
 GenesisMeans input (Err (faults.Field name)) = IsNoRecord input (Field name)
 GenesisMeans input (Err (faults.Range name)) = IsNoRecord input (Range name)
+GenesisMeans input (Err faults.Memory) = ⊥
 GenesisMeans input (Err f) = IsRefusal input f
 
 -- the answer is right, unless memory ran out
@@ -232,6 +239,12 @@ abbrev pub GenesisMeansUnless : List ℕ → Result Genesis GenesisFault → Typ
 GenesisMeansUnless input (Err faults.Memory) = Unit {0}
 GenesisMeansUnless input (Ok g) = IsGenesis input g
 GenesisMeansUnless input (Err f) = GenesisMeans input (Err f)
+
+-- the answer that is owed, unless memory ran out
+abbrev pub GenesisAnswers : Result Genesis GenesisFault → Result Genesis GenesisFault → Type 0
+GenesisAnswers (Err faults.Memory) r = Unit {0}
+GenesisAnswers (Ok g) r = r ≡ Ok g
+GenesisAnswers (Err f) r = r ≡ Err f
 
 -- the number that a fault is shown by
 abbrev pub number_of : GenesisFault → ℕ

@@ -1,10 +1,12 @@
 //! The genesis of a chain.
-ghost use Rattle.std.specs.Prelude.{◌≡◌, ◌<◌, ◌≤◌, ◌^◌, ◌==◌, ◌&&◌, not, length, IfOk, IsTrue, map};
+ghost use Rattle.std.specs.Prelude.{◌≡◌, ◌<◌, ◌≤◌, ◌^◌, ◌==◌, ◌&&◌, not, length, Result, IfOk, IsTrue, map};
 ghost use Rattle.std.specs.List.{list_all, list_any};
 ghost use Rattle.al_msgpack.specs.Places.{IsSpelling};
 ghost use Rattle.al_msgpack.specs.Rising.{canonical};
 ghost use Rattle.std.specs.Str.{bytes_eq};
-ghost use Rattle.al_eval.specs.Genesis.{GenesisMeansUnless, IsGenesisOf, first_header, first_row, is_plain, is_plain_row, votes, status_of, interval_of, least_balance, number_of};
+ghost use Rattle.al_eval.specs.Genesis.{GenesisAnswers, GenesisMeans, GenesisMeansUnless, IsGenesisOf, first_header, first_row, is_plain, is_plain_row, votes, status_of, interval_of, least_balance, number_of};
+ghost use Rattle.al_eval.specs.declared.genesis.Genesis.{Genesis};
+ghost use Rattle.al_eval.specs.declared.genesis.GenesisFault.{GenesisFault};
 ghost use Rattle.al_eval.specs.declared.genesis.GenesisFault.TheVariants.{Memory};
 
 use crate::genesis_checks::{LEAST_BALANCE, check_fields};
@@ -99,14 +101,12 @@ impl Genesis {
     /// The genesis that bytes spell, or the first fault.
     pub fn decode(alloc: Global, input: &[u8]) -> Result<Genesis, GenesisFault>
         requires { length input.now < 2 ^ 31 }
-        ensures { GenesisMeansUnless input.now result }
+        // Each answer is right, by the format and the conditions alone.
+        ensures right { GenesisMeansUnless input.now result }
+        // What is right is answered, unless memory runs out.
+        ensures only { (r : Result Genesis GenesisFault) → GenesisMeans input.now r → GenesisAnswers result r }
     {
-        let v = match decode(alloc, input) {
-            Ok(v) => v,
-            Err(DecodeFault::Memory) => return Err(GenesisFault::Memory),
-            Err(fault) => return Err(GenesisFault::Decode(fault)),
-        };
-        genesis_in(alloc, input, &v)
+        judge(alloc, input)
     }
 
     /// Whether the pool has 100,000 microAlgos, and each account has a balance and nothing else,
@@ -117,6 +117,19 @@ impl Genesis {
         has_plain_pool(&self.chain.special.pool, self.accounts.as_slice())
             && are_plain(self.accounts.as_slice())
     }
+}
+
+/// The verdict on an input.
+fn judge(alloc: Global, input: &[u8]) -> Result<Genesis, GenesisFault>
+    requires { length input.now < 2 ^ 31 }
+    ensures { GenesisMeansUnless input.now result }
+{
+    let v = match decode(alloc, input) {
+        Ok(v) => v,
+        Err(DecodeFault::Memory) => return Err(GenesisFault::Memory),
+        Err(fault) => return Err(GenesisFault::Decode(fault)),
+    };
+    genesis_in(alloc, input, &v)
 }
 
 /// The genesis that a value says, or the first fault.

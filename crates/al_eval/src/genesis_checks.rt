@@ -78,7 +78,7 @@ fn has_special(who: &Address, accounts: &[FirstAccount]) -> bool
 
 /// Sink and pool are two such accounts.
 fn has_both(fields: &GenesisRecord) -> bool
-    ensures { result ≡ has_both fields.now }
+    ensures { result ≡ has_both fields.now.sink fields.now.pool fields.now.accounts }
 {
     let accounts = fields.accounts.as_slice();
     fields.sink.0.as_slice() != fields.pool.0.as_slice()
