@@ -1,9 +1,8 @@
 -- An input has one meaning.
-use Rattle.std.proofs.Common.{◌≡◌, ℕ, List, ◌++◌, length, OnOk, Option, Some, None, Result, Ok, Err, refl, sym, ap, subst, ◌∙◌}
-use Rattle.al_msgpack.specs.declared.val.Val.{Val, out-Val}
+use Rattle.std.proofs.Common.{◌≡◌, ℕ, List, ◌++◌, length, OnOk, Some, None, Result, Ok, Err, refl, sym, ap, subst, ◌∙◌}
+use Rattle.al_msgpack.specs.declared.val.Val.{Val}
 use Rattle.al_msgpack.specs.declared.val.Val.TheVariants as values
 use Rattle.al_msgpack.specs.declared.val.Val.TheViews as views
-use Rattle.al_msgpack.specs.declared.val.Entry.{Entry}
 use Rattle.al_msgpack.specs.declared.fault.DecodeFault.{DecodeFault}
 use Rattle.al_msgpack.specs.Places.{IsSpelling, Means}
 use Rattle.al_msgpack.specs.Spelled.{spelled}

@@ -1,7 +1,6 @@
 -- The records of headers and blocks determine these.
-use Rattle.std.proofs.Common.{◌≡◌, List, None, codes, refl, sym, ◌∙◌}
-use Rattle.al_msgpack.specs.declared.val.Entry.{Entry}
-use Rattle.al_record.specs.Columns.{IsRecord, map_of, list_of, value_at, members_fault}
+use Rattle.std.proofs.Common.{◌≡◌, None, codes, refl, sym}
+use Rattle.al_record.specs.Columns.{map_of, list_of, value_at, members_fault}
 use Rattle.al_record.specs.Laws.{AllAgree}
 use Rattle.al_record.proofs.Engine.{first_none}
 use Rattle.al_record.proofs.Laws.{record_shows}

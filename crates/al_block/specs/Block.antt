@@ -1,9 +1,7 @@
 -- Blocks, and what an input is that should be one.
-use Rattle.std.specs.Prelude.{◌≡◌, ◌≤◌, nat_le, ℕ, codes, length, List, [], ◌∷◌, Option, Some, None, Result, Ok, Err}
+use Rattle.std.specs.Prelude.{◌≡◌, nat_le, ℕ, codes, length, List, [], ◌∷◌, Option, Some, None, Result, Ok, Err}
 use Rattle.al_msgpack.specs.declared.val.Val.{Val, out-Val}
 use Rattle.al_msgpack.specs.declared.val.Val.TheVariants as values
-use Rattle.al_msgpack.specs.declared.val.Entry.{Entry}
-use Rattle.al_msgpack.specs.declared.fault.DecodeFault.{DecodeFault}
 use Rattle.al_msgpack.specs.Places.{IsSpelling, Means}
 use Rattle.al_record.specs.declared.fault.Fault.{Fault}
 use Rattle.al_record.specs.declared.fault.Fault.TheVariants.{Field, Range}

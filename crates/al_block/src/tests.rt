@@ -40,6 +40,14 @@ fn blocks_and_hashes(rt: HostRuntime) -> Result<(), Fail> {
     Ok(())
 }
 
+fn names(fault: &BlockFault, is_range: bool, want: &str) -> bool {
+    match fault {
+        BlockFault::Field { name } => !is_range && name.as_slice() == want.as_bytes(),
+        BlockFault::Range { name } => is_range && name.as_slice() == want.as_bytes(),
+        _ => false,
+    }
+}
+
 #[test]
 fn first_faults(rt: HostRuntime) -> Result<(), Fail> {
     // Each input with whether its fault is a range, and the field.
@@ -78,15 +86,10 @@ fn first_faults(rt: HostRuntime) -> Result<(), Fail> {
     ];
     for (input, is_range, want) in cases {
         assert!(rt; input.len() < 1000);
-        match decode_block(rt.alloc(), input) {
-            Err(BlockFault::Field { name }) => {
-                assert!(rt; !is_range && name.as_slice() == want.as_bytes(), "{want}");
-            }
-            Err(BlockFault::Range { name }) => {
-                assert!(rt; is_range && name.as_slice() == want.as_bytes(), "{want}");
-            }
-            _ => assert!(rt; false, "{want}"),
-        }
+        let Err(fault) = decode_block(rt.alloc(), input) else {
+            return Err(Fail::new("no fault"));
+        };
+        assert!(rt; names(&fault, is_range, want), "{want}");
     }
     Ok(())
 }

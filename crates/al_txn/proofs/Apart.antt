@@ -1,5 +1,5 @@
 -- Kept fields and the others are the whole.
-use Rattle.std.proofs.Common.{◌≡◌, ℕ, zero, suc, Bool, true, false, not, List, [], ◌∷◌, ◌++◌, take, drop, Option, Some, None, refl, sym, ap, ap₂, ◌∙◌, subst, inl, inr}
+use Rattle.std.proofs.Common.{◌≡◌, ℕ, zero, suc, Bool, true, false, not, List, [], ◌∷◌, ◌++◌, take, drop, Option, Some, None, refl, ap, ◌∙◌, inl, inr}
 use Rattle.std.specs.List.{list_all}
 use Rattle.std.specs.Str.{bytes_eq}
 use Rattle.std.specs.Ordering.{is_lt, nat_cmp}
@@ -12,7 +12,7 @@ use Rattle.al_msgpack.specs.declared.val.Val.{Val}
 use Rattle.al_msgpack.specs.declared.val.Entry.{Entry}
 use Rattle.al_msgpack.specs.Rising.{rises, keys, canonical, are_canonical}
 use Rattle.al_record.specs.Columns.{FieldOf, Rule, heads, rule, rules_of, put, value_at, with_entry, entries, range_fault, AllShown}
-use Rattle.al_record.proofs.Order.{IsLess, IsBelow, Rising, rising, same_name, below_more}
+use Rattle.al_record.proofs.Order.{IsLess, IsBelow, Rising, rising, same_name}
 use Rattle.al_record.proofs.Engine.{names}
 use Rattle.al_txn.specs.Kept.{is_kept, are_kept, kept, others, below, merged}
 

@@ -1,5 +1,5 @@
 -- The exits of readers that read inner records.
-use Rattle.std.proofs.Common.{◌≡◌, Option, Some, None, refl}
+use Rattle.std.proofs.Common.{Option, refl}
 use Rattle.al_record.specs.declared.fault.Fault.{Fault}
 use Rattle.al_record.specs.declared.fault.ReadError.{ReadError}
 use Rattle.al_record.specs.declared.fault.ReadError.TheVariants as errors

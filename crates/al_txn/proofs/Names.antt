@@ -1,5 +1,5 @@
 -- Equal names of boxes are equal values.
-use Rattle.std.proofs.Common.{◌≡◌, ◌==◌, ◌∙◌, ◌-◌, ◌++◌, ◌≤◌, ℕ, Bool, true, false, nat_le, List, [], take, drop, length, replicate, if◌then◌else◌, refl, sym, ap, ap₂, subst}
+use Rattle.std.proofs.Common.{◌≡◌, ◌==◌, ◌∙◌, ◌-◌, ◌++◌, ◌≤◌, ℕ, Bool, true, false, nat_le, List, [], drop, length, replicate, if◌then◌else◌, refl, sym, ap, ap₂, subst}
 use Rattle.std.proofs.lemmas.Bool.{eqb-true}
 use Rattle.std.proofs.lemmas.List.{length-take-le, take-append-drop}
 use Rattle.std.proofs.Props.{props}

@@ -1,11 +1,10 @@
 -- A transaction's record determines the transaction.
-use Rattle.std.proofs.Common.{◌≡◌, ℕ, Bool, true, false, List, [], ◌∷◌, Option, Some, None, Ok, codes, refl, sym, ap, ap₂, subst, ◌∙◌}
+use Rattle.std.proofs.Common.{◌≡◌, ℕ, true, false, List, Some, Ok, codes, refl, sym, ap, ap₂, subst, ◌∙◌}
 use Rattle.std.proofs.Props.{props}
 use Rattle.al_msgpack.specs.declared.val.Val.TheVariants as values
 use Rattle.al_msgpack.specs.declared.val.Entry.{Entry}
-use Rattle.al_base.specs.declared.address.Address.{Address}
 use Rattle.al_base.specs.declared.asset.AssetParams.{AssetParams}
-use Rattle.al_record.specs.Columns.{FieldOf, IsRecord, is_empty, table, entries, map_of, value_at, first_fault, rules_of, rule, heads}
+use Rattle.al_record.specs.Columns.{FieldOf, IsRecord, is_empty, table, entries, map_of, value_at, first_fault, rules_of, heads}
 use Rattle.al_record.specs.Kinds.{text_kind}
 use Rattle.al_record.specs.Laws.{AllAgree}
 use Rattle.al_record.proofs.Engine.{first_none, names}
@@ -22,7 +21,7 @@ use Rattle.al_txn.specs.declared.body.Freeze.{Freeze}
 use Rattle.al_txn.specs.declared.body.AppCall.{AppCall}
 use Rattle.al_txn.specs.declared.body.Body.{Body}
 use Rattle.al_txn.specs.declared.body.Body.TheVariants as bodies
-use Rattle.al_txn.specs.Txn.{txn, txn_fault, written, common, pay, keyreg, acfg, axfer, afrz, params_fields, asset_params, pay_txn, keyreg_txn, acfg_txn, axfer_txn, afrz_txn, appl_txn}
+use Rattle.al_txn.specs.Txn.{txn, txn_fault, written, pay, axfer, params_fields, asset_params, pay_txn, keyreg_txn, acfg_txn, axfer_txn, afrz_txn, appl_txn}
 use Rattle.al_txn.specs.Kept.{kept, others, merged, are_kept}
 use Rattle.al_txn.proofs.Apart.{others_at, others_merged, kept_merged, entries_others}
 use Rattle.al_txn.proofs.Written.{all_put, text_named, words_apart}

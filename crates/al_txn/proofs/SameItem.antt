@@ -1,5 +1,5 @@
 -- The records of effects and of a payset's entries determine these.
-use Rattle.std.proofs.Common.{◌≡◌, ℕ, Bool, true, false, nat_le, length, List, Option, Some, None, Ok, codes, refl, sym, ap, ap₂, ◌∙◌}
+use Rattle.std.proofs.Common.{◌≡◌, ℕ, Bool, true, false, nat_le, length, List, Option, None, Ok, codes, refl, sym, ap, ap₂, ◌∙◌}
 use Rattle.std.proofs.lemmas.Bool.{and_parts}
 use Rattle.al_msgpack.specs.declared.val.Val.{Val}
 use Rattle.al_msgpack.specs.declared.val.Entry.{Entry}

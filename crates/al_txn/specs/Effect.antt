@@ -1,5 +1,5 @@
 -- Effects of calls of applications.
-use Rattle.std.specs.Prelude.{◌==◌, ◌≡◌, ℕ, codes, length, List, [], ◌∷◌, Option, Some, None, Result, Ok, Err, if◌then◌else◌}
+use Rattle.std.specs.Prelude.{◌==◌, ℕ, codes, length, List, [], ◌∷◌, Option, Some, None, if◌then◌else◌}
 use Rattle.std.specs.Str.{bytes_eq}
 use Rattle.al_msgpack.specs.declared.val.Entry.{Entry}
 use Rattle.al_base.specs.Name.{name_of}

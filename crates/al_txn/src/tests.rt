@@ -45,6 +45,14 @@ fn payment(rt: HostRuntime) -> Result<(), Fail> {
     Ok(())
 }
 
+fn names(fault: &ItemFault, is_range: bool, want: &str) -> bool {
+    match fault {
+        ItemFault::Field { name } => !is_range && name.as_slice() == want.as_bytes(),
+        ItemFault::Range { name } => is_range && name.as_slice() == want.as_bytes(),
+        ItemFault::Memory => false,
+    }
+}
+
 #[test]
 fn first_faults(rt: HostRuntime) -> Result<(), Fail> {
     // Each input with whether its fault is a range, and the field.
@@ -107,15 +115,10 @@ fn first_faults(rt: HostRuntime) -> Result<(), Fail> {
     for (input, is_range, want) in cases {
         assert!(rt; input.len() < 1000);
         let value = decode(rt.alloc(), input)?;
-        match decode_item(rt.alloc(), &value) {
-            Err(ItemFault::Field { name }) => {
-                assert!(rt; !is_range && name.as_slice() == want.as_bytes(), "{want}");
-            }
-            Err(ItemFault::Range { name }) => {
-                assert!(rt; is_range && name.as_slice() == want.as_bytes(), "{want}");
-            }
-            _ => assert!(rt; false, "{want}"),
-        }
+        let Err(fault) = decode_item(rt.alloc(), &value) else {
+            return Err(Fail::new("no fault"));
+        };
+        assert!(rt; names(&fault, is_range, want), "{want}");
     }
     Ok(())
 }

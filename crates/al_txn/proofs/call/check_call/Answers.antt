@@ -1,4 +1,4 @@
-use Rattle.std.proofs.Common.{◌≡◌, refl, sym, ap}
+use Rattle.std.proofs.Common.{refl}
 use Rattle.al_record.specs.Columns.{rules_of}
 use Rattle.al_txn.specs.Txn.{appl_txn}
 use Rattle.al_txn.proofs.Apart.{range_others}

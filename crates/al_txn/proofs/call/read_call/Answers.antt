@@ -1,9 +1,8 @@
-use Rattle.std.proofs.Common.{◌≡◌, rules, refl, sym, ap, ap₂, codes, true, None, ◌∙◌}
-use Rattle.al_msgpack.specs.declared.val.Entry.{Entry}
+use Rattle.std.proofs.Common.{◌≡◌, rules, refl, sym, ap, ap₂, codes, true, ◌∙◌}
 use Rattle.al_txn.specs.declared.body.AppCall.{AppCall}
-use Rattle.al_txn.specs.Kept.{are_kept, kept, others, merged}
+use Rattle.al_txn.specs.Kept.{are_kept, others, merged}
 use Rattle.al_txn.specs.Txn.{txn, txn_fault, written, appl_txn}
-use Rattle.al_record.specs.Columns.{first_fault, rules_of, entries}
+use Rattle.al_record.specs.Columns.{entries}
 use Rattle.al_record.proofs.Engine.{is_record, passes_on}
 use Rattle.al_record.proofs.OfKind.{text_shown}
 use Rattle.al_txn.proofs.Apart.{kept_only, shown_others, others_canonical, join}

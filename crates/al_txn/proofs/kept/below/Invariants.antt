@@ -1,4 +1,4 @@
-use Rattle.std.proofs.Common.{◌≡◌, ◌+◌, ◌≤◌, drop}
+use Rattle.std.proofs.Common.{◌≡◌, ◌+◌, drop}
 use Rattle.al_txn.specs.Kept.{below}
 use Rattle.al_txn.proofs.kept.below.Given as goal
 
