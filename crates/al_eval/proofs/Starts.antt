@@ -1,5 +1,6 @@
 -- The rows that a genesis begins with.
-use Rattle.std.proofs.Common.{◌≡◌, ◌≤◌, ◌+◌, ◌^◌, ℕ, refl, sym, ap, ◌∙◌, subst, arith, List, [], ◌∷◌, map, sum, All, Bool, true, false, cond, IfSome, Option, Some, None, option_map, if◌then◌else◌}
+use Rattle.std.proofs.Math.Seq.{drop-cons}
+use Rattle.std.proofs.Common.{◌≡◌, ◌≤◌, ◌<◌, ◌+◌, ◌^◌, ℕ, suc, drop, get_or, length, refl, sym, ap, ◌∙◌, subst, arith, List, [], ◌∷◌, map, sum, All, Bool, true, false, cond, IfSome, Option, Some, None, option_map, if◌then◌else◌}
 use Rattle.std.specs.List.{AllByRecursion}
 use Rattle.std.specs.List.Sorted.{IsStrictlySortedBy}
 use Rattle.std.proofs.lemmas.List.Elements.{All-from_recursion, recursion_from_All}
@@ -25,7 +26,7 @@ use Rattle.al_eval.specs.declared.genesis.GenesisRow.{GenesisRow}
 use Rattle.al_eval.specs.declared.genesis.Genesis.{Genesis}
 use Rattle.al_eval.specs.Genesis.{IsGenesis, first_row, money_of}
 use Rattle.al_eval.specs.Next.{stored_at}
-use Rattle.al_eval.specs.Start.{with_account}
+use Rattle.al_eval.specs.Start.{with_account, with_accounts}
 
 -- to put what stands under a key is to set it
 pub put_sets : (old new : BTreeMap Key Stored) (k : Key) (v : Option Stored) → ((q : Key) → at new.entries q ≡ cond (is_at (key_cmp k) q) v (at old.entries q)) → from_entries {R = key_cmp} new.entries ≡ set_at (from_entries old.entries) k v
@@ -57,6 +58,16 @@ all_kept rows ordered kept =
     All-from_recursion (λ (e : Key × Stored). IsKept e.0 e.1.row) rows.entries (all_more rows.entries (λ e is.
     subst (λ o. IfSome o (λ (s : Stored). IsKept e.0 s.row)) (sym (find-lookup keys_total rows.entries e.0) ∙ is) (kept e.0)) (each_found rows.entries (sorted rows.entries ordered)))
 
+-- the rows with one account more
+pub next_account : (old new : BTreeMap Key Stored) (xs : List GenesisRow) (i : ℕ) (d : GenesisRow) → i < length xs
+    → ((q : Key) → at new.entries q ≡ cond (is_at (key_cmp (Account (get_or xs i d).address)) q) (stored_at 0 (unless_zero (row.Account (get_or xs i d).row))) (at old.entries q))
+    → with_accounts (from_entries new.entries) (drop (i + 1) xs) ≡ with_accounts (from_entries old.entries) (drop i xs)
+next_account old new xs i d within h =
+    let one : suc i ≡ i + 1 = omega arith in
+    let left : drop i xs ≡ get_or xs i d ∷ drop (i + 1) xs = drop-cons xs i d within ∙ ap (λ j. get_or xs i d ∷ drop j xs) one in
+    ap (λ (m : FinMap key_cmp Stored). with_accounts m (drop (i + 1) xs)) (put_sets old new (Account (get_or xs i d).address) (stored_at 0 (unless_zero (row.Account (get_or xs i d).row))) h)
+    ∙ sym (ap (with_accounts (from_entries old.entries)) left)
+
 -- ---- the accounts of a genesis are in their ranges
 
 ranged_one : (a : FirstAccount) → a.row.balance ≤ 10000000000000000 → AccountInRange (first_row a).row
@@ -67,7 +78,9 @@ ranged_one a h = (h, record {
 
 ranged_all : (accounts : List FirstAccount) → money_of accounts ≤ 10000000000000000 → AllByRecursion (λ (r : GenesisRow). AccountInRange r.row) (map first_row accounts)
 ranged_all [] h = tt
-ranged_all (a ∷ accounts) h = (ranged_one a (omega (arith, h)), ranged_all accounts (omega (arith, h)))
+ranged_all (a ∷ accounts) h =
+    let more : money_of (a ∷ accounts) ≡ a.row.balance + money_of accounts = refl in
+    (ranged_one a (omega (arith, h, more)), ranged_all accounts (omega (arith, h, more)))
 
 pub genesis_ranged : (input : List ℕ) (g : Genesis) → IsGenesis input g → All (λ a. AccountInRange a.row) g.accounts
 genesis_ranged input g is =
