@@ -4,6 +4,7 @@ use Rattle.std.proofs.Common.{◌≡◌, ◌≤◌, ◌<◌, ◌+◌, ◌^◌, �
 use Rattle.std.specs.List.{AllByRecursion}
 use Rattle.std.specs.List.Sorted.{IsStrictlySortedBy}
 use Rattle.std.proofs.lemmas.List.Elements.{All-from_recursion, recursion_from_All}
+use Rattle.std.proofs.lemmas.List.Sums.{sum_by-cons}
 use Rattle.std.specs.BTreeMap.{BTreeMap, is_at}
 use Rattle.std.specs.FinMap.{FinMap, get, from_entries, same_map}
 use Rattle.al_base.specs.declared.key.Key.{Key}
@@ -71,15 +72,25 @@ next_account old new xs i d within h =
 -- ---- the accounts of a genesis are in their ranges
 
 ranged_one : (a : FirstAccount) → a.row.balance ≤ 10000000000000000 → AccountInRange (first_row a).row
-ranged_one a h = (h, record {
-  assets_held = omega arith; assets_created = omega arith; apps_created = omega arith; apps_opted = omega arith; extra_pages = omega arith;
-  uints = omega arith; byte_slices = omega arith; boxes = omega arith; box_bytes = omega arith;
-})
+ranged_one a h = (
+  h,
+  record {
+    assets_held = omega arith;
+    assets_created = omega arith;
+    apps_created = omega arith;
+    apps_opted = omega arith;
+    extra_pages = omega arith;
+    uints = omega arith;
+    byte_slices = omega arith;
+    boxes = omega arith;
+    box_bytes = omega arith;
+  },
+)
 
 ranged_all : (accounts : List FirstAccount) → money_of accounts ≤ 10000000000000000 → AllByRecursion (λ (r : GenesisRow). AccountInRange r.row) (map first_row accounts)
 ranged_all [] h = tt
 ranged_all (a ∷ accounts) h =
-    let more : money_of (a ∷ accounts) ≡ a.row.balance + money_of accounts = refl in
+    let more : money_of (a ∷ accounts) ≡ a.row.balance + money_of accounts = sum_by-cons (λ x. x) a.row.balance (map (λ (b : FirstAccount). b.row.balance) accounts) in
     (ranged_one a (omega (arith, h, more)), ranged_all accounts (omega (arith, h, more)))
 
 pub genesis_ranged : (input : List ℕ) (g : Genesis) → IsGenesis input g → All (λ a. AccountInRange a.row) g.accounts

@@ -24,7 +24,11 @@ use std::alloc::{AllocError, Global};
 use std::collections::BTreeMap;
 
 // Puts a row under a key.
-pub(crate) fn put(rows: &mut BTreeMap<Key, Stored>, key: &Key, stored: Stored) -> Result<(), AllocError>
+pub(crate) fn put(
+    rows: &mut BTreeMap<Key, Stored>,
+    key: &Key,
+    stored: Stored,
+) -> Result<(), AllocError>
     ensures { OnOk result ((q : _) → at rows.new.entries q ≡ cond (is_at (key_cmp key.now) q) (Some stored) (at rows.old.entries q)) }
 {
     match rows.insert(*key, stored) {

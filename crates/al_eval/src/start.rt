@@ -18,10 +18,7 @@ use std::alloc::{AllocError, Global};
 use std::collections::BTreeMap;
 
 // Puts the row of an account, a zero row being none.
-fn put_account(
-    rows: &mut BTreeMap<Key, Stored>,
-    account: &GenesisRow,
-) -> Result<(), AllocError>
+fn put_account(rows: &mut BTreeMap<Key, Stored>, account: &GenesisRow) -> Result<(), AllocError>
     ensures { OnOk result ((q : _) → at rows.new.entries q ≡ cond (is_at (key_cmp (Account account.now.address)) q) (stored_at 0 (unless_zero (row.Account account.now.row))) (at rows.old.entries q)) }
 {
     let key = Key::Account(account.address);
