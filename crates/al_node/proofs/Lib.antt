@@ -1,0 +1,4 @@
+pub mod TakingLemmas
+pub mod KeepLemmas
+pub mod PlainLemmas
+pub mod OpenLemmas

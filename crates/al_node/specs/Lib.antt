@@ -1,0 +1,7 @@
+pub mod Plain
+pub mod Held
+pub mod Replies
+pub mod Keeping
+pub mod Taking
+pub mod Opening
+pub mod Sessions
