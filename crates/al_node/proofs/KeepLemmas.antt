@@ -1,6 +1,10 @@
 -- The kept states are those of the chain.
 use Rattle.std.proofs.Common.{◌≡◌, ◌≤◌, ◌<◌, ◌+◌, ◌-◌, ℕ, zero, suc, List, [], ◌∷◌, ◌++◌, length, take, map, All, get_or, refl, sym, ap, ◌∙◌, arith, subst, append_assoc, length-append, Result, Ok, Err, Option, Some, None, Ordering, IfSome, if◌then◌else◌}
 use Rattle.std.proofs.lemmas.List.{map-append}
+use Rattle.std.proofs.lemmas.List.Elements.{All-push}
+use Rattle.al_msgpack.proofs.Canonical.{spells_only}
+use Rattle.al_msgpack.specs.declared.val.Val.TheVariants as values
+use Rattle.al_block.specs.Block.{block, IsBlock}
 use Rattle.std.specs.BTreeMap as tree
 use Rattle.std.specs.FinMap.{from_entries, get}
 use Rattle.al_base.specs.declared.key.Key.{Key}
@@ -20,7 +24,7 @@ use Rattle.al_rows.specs.declared.row.Row.TheVariants as rows
 use Rattle.al_base.specs.declared.address.Address.{Address}
 use Rattle.al_base.specs.declared.key.Key.TheVariants as keys
 use Rattle.al_http.specs.Answers.{IsSound}
-use Rattle.al_node.specs.Replies.{account_of, account_answer}
+use Rattle.al_node.specs.Replies.{account_of, account_answer, IsBlockOf}
 use Rattle.al_eval.specs.Past.{entry_of}
 use Rattle.al_eval.specs.declared.tail.Entry.{Entry}
 use Rattle.al_eval.specs.Steps.{Refusal}
@@ -85,7 +89,7 @@ rows_last : (rows : Tree) (xs : List Accepted) (a : Accepted) → rows_at rows (
 rows_last rows [] a = refl
 rows_last rows (x ∷ more) a = rows_last x.rows more a
 
-length-blocks : (xs : List Accepted) → length (blocks_of xs) ≡ length xs
+pub length-blocks : (xs : List Accepted) → length (blocks_of xs) ≡ length xs
 length-blocks [] = refl
 length-blocks (x ∷ more) = let e = length-blocks more in omega (arith, e)
 
@@ -133,6 +137,17 @@ pub shown_sound : (t : Tree) (front round level : ℕ) (who : Address) (o : Opti
 shown_sound t front round level who o h is =
     account_sound front round level who o (subst (λ (p : Option Stored). IfSome p (λ (s : Stored). IsKept (keys.Account who) s.row)) (sym is) (ranged-get (λ k (s : Stored). IsKept k s.row) t.entries (keys.Account who) h))
 
+-- ---- the block of a round
+
+pub block_of_at : (xs : List Accepted) (k : ℕ) (d : Accepted) → k < length xs → IsBlockOf (blocks_of xs) (suc k) (get_or xs k d).block
+block_of_at [] k d h = absurd (omega (arith, h))
+block_of_at (x ∷ more) zero d h = ([], blocks_of more, refl, refl)
+block_of_at (x ∷ more) (suc k) d h = let r = block_of_at more k d (omega (arith, h)) in (x.block ∷ r.0, r.1, ap (λ zs. x.block ∷ zs) r.2, ap suc r.3)
+
+-- bytes that spell one block are the same
+pub one_spelling : (a b : List ℕ) (x : Block) → IsBlock a x → IsBlock b x → a ≡ b
+one_spelling a b x p q = sym (spells_only 16 (values.Map (block.write x)) a p.spells) ∙ spells_only 16 (values.Map (block.write x)) b q.spells
+
 -- ---- one block more
 
 whole : (s : State) (chain : Chain) (header : Header) (rows : Tree) (past : List Txn) → s.chain ≡ chain → s.header ≡ header → s.rows ≡ from_entries rows.entries → s.past ≡ past → s ≡ record { chain = chain; header = header; rows = from_entries rows.entries; past = past }
@@ -146,9 +161,9 @@ mapped (i ∷ items) = ap (λ es. entry_of i.txn ∷ es) (mapped items)
 
 pub kept_more : (chain : Chain) (first : Header) (rows : Tree) (accepted : List Accepted) (header : Header) (hash : List ℕ) (tail : List Entry) (a : Accepted) (hash2 : List ℕ) (tail2 : List Entry)
     → IsKeeping chain first rows accepted header hash tail → Leads (record { origin = origin_of chain first rows; blocks = blocks_of accepted }) a.block a.rows
-    → hash2 ≡ header_hash_of a.block.header → tail2 ≡ tail ++ map (λ i. entry_of i.txn) a.block.items → All (λ e. IsKept e.0 e.1.row) a.rows.entries
+    → hash2 ≡ header_hash_of a.block.header → tail2 ≡ tail ++ map (λ i. entry_of i.txn) a.block.items → All (λ e. IsKept e.0 e.1.row) a.rows.entries → IsBlock a.bytes.items a.block
     → IsKeeping chain first rows (accepted ++ a ∷ []) a.block.header hash2 tail2
-kept_more chain first rows accepted header hash tail a hash2 tail2 k l hashed tailed all =
+kept_more chain first rows accepted header hash tail a hash2 tail2 k l hashed tailed all spells =
     let last : State = record { chain = chain; header = header; rows = from_entries (last_rows rows accepted).entries; past = k.past } in
     let two : Ok l.last ≡ Ok last = sym l.replayed ∙ follows_replay (origin_of chain first rows) last accepted k.follows in
     let same : l.last ≡ last = cc in
@@ -164,4 +179,5 @@ kept_more chain first rows accepted header hash tail a hash2 tail2 k l hashed ta
       hash_is = hashed;
       tail_is = tailed ∙ ap (λ es. es ++ map (λ i. entry_of i.txn) a.block.items) k.tail_is ∙ ap (λ es. map entry_of k.past ++ es) (mapped a.block.items) ∙ sym (map-append entry_of k.past (map (λ i. i.txn) a.block.items));
       kept = kept_push rows accepted a k.kept all;
+      spelled = All-push (λ (x : Accepted). IsBlock x.bytes.items x.block) accepted a k.spelled spells;
     }

@@ -1,5 +1,7 @@
 -- The states of a genesis.
 use Rattle.std.proofs.Common.{◌≡◌, ℕ, List, [], All, Bool, true, false, refl, ap, sym, subst, ◌∙◌, Result, Ok, Err}
+use Rattle.std.proofs.lemmas.List.Elements.{All-nil}
+use Rattle.al_block.specs.Block.{IsBlock}
 use Rattle.std.specs.FinMap.{FinMap, from_entries}
 use Rattle.al_base.specs.Keys.{key_cmp}
 use Rattle.al_block.specs.declared.block.Block.{Block}
@@ -26,6 +28,7 @@ kept_first chain first header rows hash e h kept = record {
   hash_is = h ∙ ap header_hash_of e;
   tail_is = refl;
   kept = kept;
+  spelled = All-nil (λ (a : Accepted). IsBlock a.bytes.items a.block);
 }
 
 pub kept_begun : (chain : Chain) (first header : Header) (rows : Tree) (hash : List ℕ) (accepted : List Accepted) (tail : List Entry) → accepted ≡ [] → tail ≡ [] → first ≡ header → hash ≡ header_hash_of first → All (λ e. IsKept e.0 e.1.row) rows.entries → IsKeeping chain first rows accepted header hash tail

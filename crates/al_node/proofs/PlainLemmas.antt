@@ -7,13 +7,13 @@ use Rattle.al_txn.specs.declared.body.Body.{Body}
 use Rattle.al_txn.specs.declared.body.Body.TheVariants as bodies
 use Rattle.al_block.specs.declared.block.Block.{Block}
 use Rattle.al_eval.specs.State.{IsPay}
-use Rattle.al_node.specs.Plain.{is_plain, is_plain_body, is_plain_item, is_one, is_none}
+use Rattle.al_node.specs.Plain.{is_plain, is_plain_body, is_plain_item, is_at_most_one, is_none}
 
-and_left : (a b : Bool) → (a && b) ≡ true → a ≡ true
+pub and_left : (a b : Bool) → (a && b) ≡ true → a ≡ true
 and_left true b h = refl
 and_left false b h = h
 
-and_right : (a b : Bool) → (a && b) ≡ true → b ≡ true
+pub and_right : (a b : Bool) → (a && b) ≡ true → b ≡ true
 and_right true b h = h
 and_right false b h = absurd cc
 
@@ -31,4 +31,4 @@ plain_at pool (i ∷ more) zero d h fits = plain_pay pool i.txn.body (and_left (
 plain_at pool (i ∷ more) (suc k) d h fits = plain_at pool more k d (and_right (is_plain_item pool i) _ h) (omega (arith, fits))
 
 pub plain_pays : (pool : Address) (b : Block) → is_plain pool b ≡ true → All (λ i. IsPay i.txn.body) b.items
-plain_pays pool b h = λ k d fits. plain_at pool b.items k d (and_right (is_one b.items) _ (and_right (is_none b.header.expired) _ h)) fits
+plain_pays pool b h = λ k d fits. plain_at pool b.items k d (and_right (is_at_most_one b.items) _ (and_right (is_none b.header.expired) _ h)) fits

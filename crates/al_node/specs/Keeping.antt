@@ -7,6 +7,7 @@ use Rattle.al_txn.specs.declared.chain.Chain.{Chain}
 use Rattle.al_txn.specs.declared.txn.Txn.{Txn}
 use Rattle.al_block.specs.declared.header.Header.{Header}
 use Rattle.al_block.specs.declared.block.Block.{Block}
+use Rattle.al_block.specs.Block.{IsBlock}
 use Rattle.al_block.specs.Hashes.{header_hash_of}
 use Rattle.al_rows.specs.declared.stored.Stored.{Stored}
 use Rattle.al_rows.specs.Rows.{IsKept}
@@ -59,6 +60,7 @@ pub record IsKeeping (chain : Chain) (first : Header) (rows : Tree) (accepted : 
   pub hash_is : hash ≡ header_hash_of header
   pub tail_is : tail ≡ map entry_of past
   pub kept : AllKept rows accepted
+  pub spelled : All (λ a. IsBlock a.bytes.items a.block) accepted
 
 -- what the states of a ledger hold
 abbrev pub held : States → Held

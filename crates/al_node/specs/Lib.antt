@@ -1,6 +1,7 @@
 pub mod Plain
 pub mod Held
 pub mod Replies
+pub mod Connection
 pub mod Keeping
 pub mod Taking
 pub mod Opening

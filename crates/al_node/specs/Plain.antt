@@ -22,15 +22,15 @@ is_plain_body pool b = false
 abbrev pub is_plain_item : Address → Item → Bool
 is_plain_item pool i = is_plain_body pool i.txn.body && (is_zero i.txn.rekey.0 && (is_zero i.txn.lease && is_zero i.txn.group))
 
-abbrev pub is_one : {A : Type 0} → List A → Bool
-is_one [] = false
-is_one (x ∷ []) = true
-is_one (x ∷ y ∷ more) = false
+abbrev pub is_at_most_one : {A : Type 0} → List A → Bool
+is_at_most_one [] = true
+is_at_most_one (x ∷ []) = true
+is_at_most_one (x ∷ y ∷ more) = false
 
 abbrev pub is_none : {A : Type 0} → List A → Bool
 is_none [] = true
 is_none (x ∷ more) = false
 
--- one such item, and no expired account
+-- at most one such item, and no expired account
 abbrev pub is_plain : Address → Block → Bool
-is_plain pool b = is_none b.header.expired && (is_one b.items && list_all (is_plain_item pool) b.items)
+is_plain pool b = is_none b.header.expired && (is_at_most_one b.items && list_all (is_plain_item pool) b.items)

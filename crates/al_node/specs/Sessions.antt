@@ -1,8 +1,15 @@
 -- What a run of the program is: its words, its one line of text, and its status.
-use Rattle.std.specs.Prelude.{◌≡◌, ◌⊎◌, ◌&&◌, ℕ, Bool, true, false, not, List, [], ◌∷◌, ◌++◌, codes, nat_eq, if◌then◌else◌, Option, Some, None}
+use Rattle.std.specs.Prelude.{◌≡◌, ◌≤◌, ◌<◌, ◌⊎◌, ◌&&◌, ℕ, Bool, true, false, not, List, [], ◌∷◌, ◌++◌, length, codes, nat_eq, if◌then◌else◌, Option, Some, None, ⊤}
 use Rattle.std.specs.Str.{bytes_eq}
 use mathlib.Core.List.{IsPrefix}
-use Rattle.al_base.specs.Causes.{Wrote, Rose}
+use Rattle.al_base.specs.Causes.{Left, Wrote, Rose}
+use Rattle.al_base.specs.Folders.{FileMap}
+use Rattle.al_eval.specs.declared.genesis.Genesis.{Genesis}
+use Rattle.al_eval.specs.Genesis.{IsGenesis, is_plain}
+use Rattle.al_eval.specs.Start.{start}
+use Rattle.al_node.specs.Connection.{Serves}
+use Rattle.al_node.specs.Held.{Held, IsValid}
+use Rattle.al_node.specs.Opening.{IsNoPlainGenesis}
 use Rattle.al_node.specs.declared.link.Ended.{Ended}
 use Rattle.al_node.specs.declared.link.Ended.TheVariants as ended
 
@@ -16,6 +23,13 @@ session_file [] = None
 session_file (command ∷ []) = None
 session_file (command ∷ file ∷ []) = if bytes_eq command (codes "session") && not (begins_with_dash file) then Some file else None
 session_file (command ∷ file ∷ other ∷ more) = None
+
+-- 10 ends a line
+abbrev pub usage_line : List ℕ
+usage_line = codes "usage: al_node [--db FILE] COMMAND" ++ 10 ∷ []
+
+abbrev pub genesis_line : List ℕ
+genesis_line = codes "genesis: 0" ++ 10 ∷ []
 
 abbrev pub folder_line : List ℕ → List ℕ
 folder_line name = codes "folder: " ++ name ++ 10 ∷ []
@@ -33,3 +47,77 @@ status_of ended.Memory = 7
 -- one line was written, or a front of it where the sink failed
 abbrev pub Says : List ℕ → Option (List ℕ) → Option (List ℕ) → ℕ → ℕ → Type 0
 Says line before now f g = Wrote before now line ⊎ ((part : List ℕ) × IsPrefix part line × Wrote before now part × Rose f g)
+
+-- what a run sees of the outside: the bytes that are left in the source, those that went to the sink, the files, and the counts of faults
+pub record Outside : Type 0 where
+  pub left : Option (List ℕ)
+  pub written : Option (List ℕ)
+  pub files : Option FileMap
+  pub sink_faults : ℕ
+  pub folder_faults : ℕ
+
+-- nothing was taken, and one line was written
+pub record SaysAlone (line : List ℕ) (before after : Outside) : Type 0 where
+  pub taken : Left before.left after.left []
+  pub says : Says line before.written after.written before.sink_faults after.sink_faults
+
+-- nothing was taken or written
+pub record IsSilent (before after : Outside) : Type 0 where
+  pub taken : Left before.left after.left []
+  pub written : Wrote before.written after.written []
+
+-- the most bytes of a genesis file
+abbrev pub most_genesis : ℕ
+most_genesis = 5242880
+
+abbrev pub HasLonger : ℕ → Option (List ℕ) → Type 0
+HasLonger limit None = ⊥
+HasLonger limit (Some bytes) = limit < length bytes
+
+-- this is what the name holds, where the files are told
+abbrev pub Holds : Option FileMap → List ℕ → Option (List ℕ) → Type 0
+Holds None name file = ⊤
+Holds (Some files) name file = files name ≡ file
+
+-- the file is longer than the limit, where the files are told
+abbrev pub IsTooLong : Option FileMap → List ℕ → Type 0
+IsTooLong None name = ⊤
+IsTooLong (Some files) name = HasLonger most_genesis (files name)
+
+-- status 4: the folder failed, or the file is missing or too long
+pub record IsUnread (name : List ℕ) (before after : Outside) (n : ℕ) : Type 0 where
+  pub status : n ≡ 4
+  pub cause : Rose before.folder_faults after.folder_faults ⊎ Holds before.files name None ⊎ IsTooLong before.files name
+  pub line : SaysAlone (folder_line name) before after
+
+-- status 3: the file holds no plain genesis
+pub record IsNoGenesis (name : List ℕ) (before after : Outside) (n : ℕ) : Type 0 where
+  pub status : n ≡ 3
+  pub cause : (file : List ℕ) × Holds before.files name (Some file) × IsNoPlainGenesis file
+  pub line : SaysAlone genesis_line before after
+
+-- status 7: there was no memory before the connection was served
+pub record IsShort (before after : Outside) (n : ℕ) : Type 0 where
+  pub status : n ≡ 7
+  pub silent : IsSilent before after
+
+-- the connection was served from the state of the file's genesis, and the status says how it ended
+pub record IsServed (name : List ℕ) (before after : Outside) (n : ℕ) : Type 0 where
+  pub file : List ℕ
+  pub holds : Holds before.files name (Some file)
+  pub genesis : Genesis
+  pub decodes : IsGenesis file genesis
+  pub plain : is_plain genesis ≡ true
+  pub held : Held
+  pub end : Ended
+  pub serves : Serves (record { origin = start genesis; blocks = [] }) held before.left after.left before.written after.written end
+  pub valid : IsValid held.origin held.blocks
+  pub status : n ≡ status_of end
+
+-- a run of these words: status 2 exactly where they name no file of a session
+abbrev pub RunsOf : Option (List ℕ) → Outside → Outside → ℕ → Type 0
+RunsOf None before after status = (status ≡ 2) × SaysAlone usage_line before after
+RunsOf (Some name) before after status = IsUnread name before after status ⊎ IsNoGenesis name before after status ⊎ IsShort before after status ⊎ IsServed name before after status
+
+abbrev pub Runs : List (List ℕ) → Outside → Outside → ℕ → Type 0
+Runs words before after status = RunsOf (session_file words) before after status

@@ -1,9 +1,10 @@
 //! One connection.
-ghost use Rattle.std.specs.Prelude.{◌≡◌, ◌≤◌, ◌⊎◌};
+ghost use Rattle.std.specs.Prelude.{◌≡◌, ◌≤◌, ◌⊎◌, length};
 ghost use Rattle.al_base.specs.Causes.{HasCause, Puts, Rose};
 ghost use Rattle.al_http.specs.Answers.{IsSound, answer_text, memory_answer};
 ghost use Rattle.al_http.specs.declared.answer.Answer.{Answer};
-ghost use Rattle.al_node.specs.Keeping.{IsStates};
+ghost use Rattle.al_node.specs.Connection.{Serves};
+ghost use Rattle.al_node.specs.Keeping.{IsStates, held};
 ghost use Rattle.al_node.specs.declared.link.Ended.TheVariants as ended;
 
 use crate::inbox::{Inbox, Next};
@@ -76,6 +77,8 @@ pub fn serve_link<S: Source, T: Sink>(
 ) -> Ended
     requires { IsStates states.old }
     ensures states { IsStates states.new }
+    ensures serves { Serves (held states.old) (held states.new) (S.left source.old) (S.left source.new) (T.written sink.old) (T.written sink.new) result }
+    ensures seen { caller.new.seen ≡ length (held states.new).blocks }
     ensures source_fault { result ≡ ended.SourceFault → Rose (S.faults source.old) (S.faults source.new) }
     ensures sink_fault { result ≡ ended.SinkFault → Rose (T.faults sink.old) (T.faults sink.new) }
     ensures later { (S.faults source.old ≤ S.faults source.new) × (T.faults sink.old ≤ T.faults sink.new) }

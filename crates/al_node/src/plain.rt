@@ -32,12 +32,13 @@ fn is_plain_item(pool: &Address, item: &Item) -> bool
         && is_zero(&txn.group)
 }
 
-/// Whether a block has one item, a payment to another than the pool without close, rekey, lease
+/// Whether a block has at most one item, a payment to another than the pool without close, rekey, lease
 /// and group, and no expired account.
 pub fn is_plain(pool: &Address, block: &Block) -> bool
     ensures { result ≡ is_plain pool.now block.now }
 {
     match block.items.as_slice() {
+        [] => block.header.expired.len() == 0,
         [item] => block.header.expired.len() == 0 && is_plain_item(pool, item),
         _ => false,
     }

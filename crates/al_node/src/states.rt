@@ -1,25 +1,28 @@
 //! The states of the ledger, one after each block.
-ghost use Rattle.std.specs.Prelude.{◌≡◌, ◌≤◌, ◌<◌, ◌^◌, ℕ, List, [], ◌∷◌, ◌++◌, length, map, All, IfOk, OnOk, OnErr, if◌then◌else◌};
+ghost use Rattle.std.specs.Prelude.{◌≡◌, ◌⊎◌, ◌≤◌, ◌<◌, ◌^◌, ℕ, suc, List, [], ◌∷◌, ◌++◌, length, map, All, IfOk, OnOk, OnErr, Some, if◌then◌else◌};
 ghost use Rattle.std.specs.Option.{option_copied};
 ghost use Rattle.std.specs.BTreeMap as tree;
 ghost use Rattle.al_base.specs.Keys.{key_cmp};
-ghost use Rattle.al_node.specs.Replies.{account_answer, broken_at, is_shown, no_row, not_built, refused_by, taken, too_new};
-ghost use Rattle.al_node.specs.Held.{IsValid};
-ghost use Rattle.al_node.specs.Keeping.{IsStates, Leads, header_at, held, rows_at};
 ghost use Rattle.al_block.specs.Block.{IsBlock};
 ghost use Rattle.al_eval.specs.Past.{entry_of};
-ghost use Rattle.al_http.specs.Answers.{IsSound, memory_answer};
-ghost use Rattle.al_rows.specs.Rows.{AccountInRange, IsKept};
 ghost use Rattle.al_eval.specs.Start.{start};
+ghost use Rattle.al_http.specs.Answers.{IsSound, memory_answer, nothing};
+ghost use Rattle.al_http.specs.declared.answer.Answer.TheVariants as answers;
+ghost use Rattle.al_http.specs.declared.asking.Request.TheVariants as asks;
+ghost use Rattle.al_node.specs.Held.{IsValid};
+ghost use Rattle.al_node.specs.Keeping.{IsStates, Leads, header_at, held, rows_at};
 ghost use Rattle.al_node.specs.Opening.{Opens, fault_of};
+ghost use Rattle.al_node.specs.Replies.{IsAnswered, IsRepeated, ShowsRefusal, account_answer, broken_at, fork, is_shown, looked, misspelled, no_row, not_built, refused_by, taken, too_new, undecodable, wrong_header, wrong_prev, wrong_round};
+ghost use Rattle.al_rows.specs.Rows.{AccountInRange, IsKept};
 
 use crate::plain::is_plain;
-use al_base::{Address, Key};
-use al_block::{Block, BlockFault, Header, decode_block, header_hash};
+use al_base::{Address, Bytes, Hash, Key};
+use al_block::{Block, BlockFault, Field, Header, decode_block, header_hash};
 use al_eval::{Before, EvalRefusal, Genesis, GenesisFault, Tail, start_rows, step_rows};
 use al_http::{Answer, ErrorName, More, Request};
 use al_moves::Rule;
-use al_rows::{Row, Stored};
+use al_msgpack::DecodeFault;
+use al_rows::{Never, Row, Stored};
 use std::alloc::{AllocError, Global};
 use std::collections::BTreeMap;
 
@@ -39,10 +42,11 @@ pub enum OpenFault {
     Memory,
 }
 
-/// A block that was accepted, and the rows after it.
+/// A block that was accepted, the bytes that spell it, and the rows after it.
 #[derive(Drop)]
 pub struct Accepted {
     block: Block,
+    bytes: Vec<u8>,
     rows: BTreeMap<Key, Stored>,
 }
 
@@ -105,6 +109,7 @@ impl States {
     pub fn front(&self) -> u64
         requires { IsStates self.now }
         ensures front { result ≡ length (held self.now).blocks }
+        ensures bound { result < 2 ^ 63 }
         ensures valid { IsValid (held self.now).origin (held self.now).blocks }
     {
         self.accepted.len() as u64
@@ -113,7 +118,8 @@ impl States {
     /// The account after a round, no round being the last one, or why it is not shown.
     pub fn look(&self, who: &Address, round: Option<u64>) -> Answer
         requires { IsStates self.now }
-        ensures { IsSound result }
+        ensures sound { IsSound result }
+        ensures looked { result ≡ looked (held self.now).origin (held self.now).blocks who.now round }
     {
         let front = self.front();
         let round = round.unwrap_or(front);
@@ -133,6 +139,7 @@ impl States {
         requires short { length body.now < 2 ^ 31 }
         ensures states { IsStates self.new }
         ensures sound { IsSound result.answer }
+        ensures answered { IsAnswered (held self.old) (held self.new) ask.now body.now result }
     {
         match ask {
             Request::Account { address, round } => {
@@ -154,49 +161,110 @@ impl States {
         }
     }
 
-    // Answers a posted block.
+    // Answers posted bytes.
     fn post(&mut self, body: &[u8]) -> Told
         requires states { IsStates self.old }
         requires short { length body.now < 2 ^ 31 }
         ensures states { IsStates self.new }
         ensures sound { IsSound result.answer }
+        ensures answered { IsAnswered (held self.old) (held self.new) asks.Post body.now result }
     {
         match decode_block(self.alloc, body) {
-            Ok(block) => self.judge(body, block),
-            Err(BlockFault::Memory) => self.told(memory()),
-            Err(_) => self.told(not_built()),
+            Ok(block) => self.place(body, block),
+            Err(fault) => self.told(undecodable(fault)),
         }
     }
 
     // Answers a block that the body spells.
-    fn judge(&mut self, body: &[u8], block: Block) -> Told
+    fn place(&mut self, body: &[u8], block: Block) -> Told
         requires states { IsStates self.old }
         requires spelled { IsBlock body.now block }
         ensures states { IsStates self.new }
         ensures sound { IsSound result.answer }
+        ensures answered { IsAnswered (held self.old) (held self.new) asks.Post body.now result }
     {
+        let round = block.header.round;
+        let front = self.front();
+        if round == 0 || front < round - 1 {
+            return self.told(wrong_round(front));
+        }
+        if round <= front {
+            let answer = self.repeated(body, round);
+            return self.told(answer);
+        }
+        self.follow(body, block)
+    }
+
+    // Answers a block of a round that a block is kept of.
+    fn repeated(&self, body: &[u8], round: u64) -> Answer
+        requires states { IsStates self.now }
+        requires round { (0 < round) × (round ≤ length (held self.now).blocks) }
+        ensures sound { IsSound result }
+        ensures compared { IsRepeated (held self.now).blocks body.now round result ⊎ (result ≡ memory_answer) }
+    {
+        let front = self.front();
+        let kept = &self.accepted[round as usize - 1];
+        if kept.bytes.as_slice() == body {
+            return taken(front, round);
+        }
+        match header_hash(self.alloc, &kept.block.header) {
+            Ok(hash) => fork(front, hash),
+            Err(_) => memory(),
+        }
+    }
+
+    // Answers a block of the next round that the body spells.
+    fn follow(&mut self, body: &[u8], block: Block) -> Told
+        requires states { IsStates self.old }
+        requires spelled { IsBlock body.now block }
+        requires next { block.header.round ≡ suc (length (held self.old).blocks) }
+        ensures states { IsStates self.new }
+        ensures sound { IsSound result.answer }
+        ensures answered { IsAnswered (held self.old) (held self.new) asks.Post body.now result }
+    {
+        let front = self.front();
+        if block.header.prev != self.before.hash {
+            return self.told(wrong_prev(front, self.before.hash));
+        }
         if !is_plain(&self.before.chain.special.pool, &block) {
             return self.told(not_built());
         }
         let rows = rows_at(&self.rows, &self.accepted, self.accepted.len());
         match step_rows(self.alloc, rows, &self.before, &self.tail, &block) {
-            Ok(rows) => match self.append(block, rows) {
-                Ok(()) => self.told(taken(self.front())),
-                Err(_) => self.told(memory()),
-            },
-            Err(EvalRefusal::Broken { place, rule }) => {
+            Ok(rows) => self.take(body, block, rows),
+            Err(refusal) => self.told(refused(front, refusal)),
+        }
+    }
+
+    // Takes a block that leads to these rows.
+    fn take(&mut self, body: &[u8], block: Block, rows: BTreeMap<Key, Stored>) -> Told
+        requires states { IsStates self.old }
+        requires spelled { IsBlock body.now block }
+        requires next { block.header.round ≡ suc (length (held self.old).blocks) }
+        requires leads { Leads (held self.old) block rows }
+        requires kept { All (λ e. IsKept e.0 e.1.row) rows.entries }
+        ensures states { IsStates self.new }
+        ensures sound { IsSound result.answer }
+        ensures answered { IsAnswered (held self.old) (held self.new) asks.Post body.now result }
+    {
+        match self.append(body, block, rows) {
+            Ok(()) => {
                 let front = self.front();
-                self.told(broken(front, place, &rule))
+                self.told(taken(front, front))
             }
-            Err(EvalRefusal::Header { field: _ }) => self.told(not_built()),
-            Err(EvalRefusal::View(never)) => match never {},
-            Err(EvalRefusal::Memory) => self.told(memory()),
+            Err(_) => self.told(memory()),
         }
     }
 
     // Keeps a block that leads to these rows.
-    fn append(&mut self, block: Block, rows: BTreeMap<Key, Stored>) -> Result<(), AllocError>
+    fn append(
+        &mut self,
+        body: &[u8],
+        block: Block,
+        rows: BTreeMap<Key, Stored>,
+    ) -> Result<(), AllocError>
         requires states { IsStates self.old }
+        requires spelled { IsBlock body.now block }
         requires leads { Leads (held self.old) block rows }
         requires kept { All (λ e. IsKept e.0 e.1.row) rows.entries }
         ensures ok { OnOk result (held self.new ≡ record (held self.old) { blocks = (held self.old).blocks ++ block ∷ [] }) }
@@ -205,11 +273,12 @@ impl States {
     {
         let header = block.header.copy(self.alloc)?;
         let hash = header_hash(self.alloc, &header)?;
+        let bytes = body.to_vec(self.alloc)?;
         keep(
             self.alloc,
             &mut self.accepted,
             &mut self.tail,
-            Accepted { block, rows },
+            Accepted { block, bytes, rows },
         )?;
         self.before.header = header;
         self.before.hash = hash;
@@ -248,12 +317,125 @@ fn keep(
     }
 }
 
-fn taken(front: u64) -> Answer
-    ensures { result ≡ taken front }
+// What posted bytes are answered that spell no block.
+fn undecodable(fault: BlockFault) -> Answer
+    ensures { result ≡ undecodable fault }
 {
-    Answer::Taken {
-        front,
-        round: front,
+    match fault {
+        BlockFault::Decode(fault) => misspelled(fault),
+        BlockFault::Field { name } => misnamed(ErrorName::Field, name),
+        BlockFault::Range { name } => misnamed(ErrorName::Range, name),
+        BlockFault::Memory => memory(),
+    }
+}
+
+fn misnamed(error: ErrorName, name: Bytes) -> Answer
+    ensures { result ≡ answers.Refused 400 error (record nothing { name = Some name }) }
+{
+    Answer::Refused {
+        status: 400,
+        error,
+        more: More {
+            name: Some(name),
+            ..More::nothing()
+        },
+    }
+}
+
+fn misspelled(fault: DecodeFault) -> Answer
+    ensures { result ≡ misspelled fault }
+{
+    match fault {
+        DecodeFault::Truncated { at } => misplaced(ErrorName::Truncated, at),
+        DecodeFault::Malformed { at } => misplaced(ErrorName::Malformed, at),
+        DecodeFault::Trailing { at } => misplaced(ErrorName::Trailing, at),
+        DecodeFault::Memory => memory(),
+    }
+}
+
+fn misplaced(error: ErrorName, at: usize) -> Answer
+    ensures { result ≡ answers.Refused 400 error (record nothing { at = Some at }) }
+{
+    Answer::Refused {
+        status: 400,
+        error,
+        more: More {
+            at: Some(at as u64),
+            ..More::nothing()
+        },
+    }
+}
+
+fn taken(front: u64, round: u64) -> Answer
+    ensures { result ≡ taken front round }
+{
+    Answer::Taken { front, round }
+}
+
+fn wrong_round(front: u64) -> Answer
+    requires { front < 2 ^ 63 }
+    ensures { result ≡ wrong_round front }
+{
+    Answer::Refused {
+        status: 409,
+        error: ErrorName::WrongRound,
+        more: More {
+            front: Some(front),
+            next: Some(front + 1),
+            ..More::nothing()
+        },
+    }
+}
+
+fn fork(front: u64, hash: Hash) -> Answer
+    ensures { result ≡ fork front hash }
+{
+    other_chain(ErrorName::Fork, front, hash)
+}
+
+fn wrong_prev(front: u64, hash: Hash) -> Answer
+    ensures { result ≡ wrong_prev front hash }
+{
+    other_chain(ErrorName::WrongPrev, front, hash)
+}
+
+fn other_chain(error: ErrorName, front: u64, hash: Hash) -> Answer
+    ensures { result ≡ answers.Refused 409 error (record nothing { front = Some front; kept = Some hash }) }
+{
+    Answer::Refused {
+        status: 409,
+        error,
+        more: More {
+            front: Some(front),
+            kept: Some(hash),
+            ..More::nothing()
+        },
+    }
+}
+
+// What a block is answered that the step refuses.
+fn refused(front: u64, refusal: EvalRefusal<Never>) -> Answer
+    ensures { ShowsRefusal front refusal result }
+{
+    match refusal {
+        EvalRefusal::Broken { place, rule } => broken(front, place, &rule),
+        EvalRefusal::Header { field } => wrong_header(front, field),
+        EvalRefusal::View(never) => match never {},
+        EvalRefusal::Memory => memory(),
+    }
+}
+
+fn wrong_header(front: u64, field: Field) -> Answer
+    ensures { result ≡ wrong_header front field }
+{
+    Answer::Refused {
+        status: 422,
+        error: ErrorName::Header,
+        more: More {
+            front: Some(front),
+            field: Some(field),
+            ..More::nothing()
+        },
     }
 }
 
