@@ -4,3 +4,4 @@ pub mod PlainLemmas
 pub mod OpenLemmas
 pub mod ServeLemmas
 pub mod ToldLemmas
+pub mod RunLemmas

@@ -1,0 +1,35 @@
+-- A run of the program that comes to serving.
+use Rattle.std.proofs.Common.{◌≡◌, ℕ, List, [], sym, subst, inr, Option, Some, None, Result, Ok, Err}
+use Rattle.al_base.specs.Folders.{FileMap, Reads}
+use Rattle.al_eval.specs.Start.{start}
+use Rattle.al_node.specs.declared.link.Ended.{Ended}
+use Rattle.al_node.specs.declared.states.States.{States}
+use Rattle.al_node.specs.Connection.{Serves}
+use Rattle.al_node.specs.Held.{Held}
+use Rattle.al_node.specs.Keeping.{IsStates, held}
+use Rattle.al_node.specs.Opening.{Opens}
+use Rattle.al_node.specs.Sessions.{Outside, Holds, IsServed, RunsOf, Runs, session_file, status_of}
+use Rattle.al_node.proofs.KeepLemmas.{states_valid}
+
+-- what a read answers is what the folder holds
+pub read_holds : (before now : Option FileMap) (name : List ℕ) (limit : ℕ) (found : Option (List ℕ)) → Reads before now name limit (Ok found) → Holds before name found
+read_holds None now name limit found x = tt
+read_holds (Some before) None name limit found x = absurd x
+read_holds (Some before) (Some now) name limit found x = sym x.1
+
+pub served_runs : (words : List (List ℕ)) (name file : List ℕ) (before after : Outside) (n : ℕ) (s t : States) (e : Ended) → Some name ≡ session_file words → Holds before.files name (Some file) → Opens file (Ok s) → Serves (held s) (held t) before.left after.left before.written after.written e → IsStates t → n ≡ status_of e
+    → Runs words before after n
+served_runs words name file before after n s t e named holds opened serves kept is =
+    let x : IsServed name before after n = record {
+      file = file;
+      holds = holds;
+      genesis = opened.1.0;
+      decodes = opened.1.1;
+      plain = opened.1.2;
+      held = held t;
+      end = e;
+      serves = subst (λ (h : Held). Serves h (held t) before.left after.left before.written after.written e) opened.1.3 serves;
+      valid = states_valid t kept;
+      status = is;
+    } in
+    subst (λ o. RunsOf o before after n) named (inr (inr (inr x)))
