@@ -36,7 +36,6 @@ take-requires-clause-leads c =
       rows_are = s.2;
     }
 
-
 pub returns-then-ne-clause-answered : goal.returns-then-ne-clause-answered
 returns-then-ne-clause-answered c =
     let s = c.args.self.now in
