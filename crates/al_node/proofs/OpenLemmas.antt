@@ -17,7 +17,7 @@ use Rattle.al_rows.specs.Rows.{IsKept}
 use Rattle.al_eval.specs.declared.genesis.Genesis.{Genesis}
 use Rattle.al_eval.specs.declared.genesis.GenesisFault.{GenesisFault}
 use Rattle.al_eval.specs.declared.genesis.GenesisFault.TheVariants as faults
-use Rattle.al_eval.specs.Genesis.{IsGenesis, GenesisMeans, GenesisAnswers, is_plain}
+use Rattle.al_eval.specs.Genesis.{GenesisMeans, GenesisAnswers, is_plain}
 use Rattle.al_eval.specs.State.{State}
 use Rattle.al_node.specs.Keeping.{Tree, IsKeeping, origin_of, blocks_of}
 

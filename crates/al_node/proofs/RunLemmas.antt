@@ -1,7 +1,6 @@
 -- A run of the program that comes to serving.
-use Rattle.std.proofs.Common.{◌≡◌, ℕ, List, [], sym, subst, inr, Option, Some, None, Result, Ok, Err}
+use Rattle.std.proofs.Common.{◌≡◌, ℕ, List, sym, subst, inr, Option, Some, None, Ok}
 use Rattle.al_base.specs.Folders.{FileMap, Reads}
-use Rattle.al_eval.specs.Start.{start}
 use Rattle.al_node.specs.declared.link.Ended.{Ended}
 use Rattle.al_node.specs.declared.states.States.{States}
 use Rattle.al_node.specs.Connection.{Serves}

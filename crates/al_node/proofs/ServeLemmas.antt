@@ -1,16 +1,15 @@
 -- One connection, piece by piece.
 use Rattle.std.proofs.Common.{◌≡◌, ◌≤◌, ◌<◌, ◌⊎◌, inl, inr, ◌+◌, ◌-◌, ℕ, List, [], ◌∷◌, ◌++◌, length, take, drop, map, refl, sym, ap, ◌∙◌, arith, subst, append_assoc, length-append, Option, Some, None, All}
-use Rattle.std.proofs.lemmas.List.{append-nil, take_all, take-append-le, take_at, drop_at, map_push, nil_from_length}
+use Rattle.std.proofs.lemmas.List.{append-nil, take-append-le, take_at, drop_at, map_push, nil_from_length}
 use Rattle.std.proofs.lemmas.List.Concat.{flat_map-append}
 use Rattle.std.proofs.lemmas.List.Elements.{All-push, All-nil}
 use Rattle.std.specs.List.{flat_map}
 use mathlib.Core.List.{IsPrefix}
-use Rattle.httparse.specs.Grammar.{RequestHead, print_request}
+use Rattle.httparse.specs.Grammar.{print_request}
 use Rattle.al_base.specs.Causes.{Left, Wrote, IsAtEnd}
 use Rattle.al_block.specs.declared.block.Block.{Block}
 use Rattle.al_eval.specs.State.{State}
 use Rattle.al_http.specs.Answers.{answer_text, memory_answer, not_built_answer}
-use Rattle.al_http.specs.Asks.{Asks}
 use Rattle.al_http.specs.Requests.{Message, IsRequest, AsksFor, spell, stream_of, IsUnfinished}
 use Rattle.al_http.specs.declared.answer.Answer.{Answer}
 use Rattle.al_http.specs.declared.asking.Request.{Request}
@@ -19,7 +18,7 @@ use Rattle.al_node.specs.declared.states.Told.{Told}
 use Rattle.al_node.specs.Held.{Held}
 use Rattle.al_node.specs.Replies.{Replies, IsAnswer, Grows, IsAnswered}
 use Rattle.al_node.specs.Taking.{Grown, IsRefusedPiece}
-use Rattle.al_node.specs.Connection.{told_text, IsToldOf, Answers, last_front, Serving, Serves, IsRefusal}
+use Rattle.al_node.specs.Connection.{told_text, IsToldOf, Answers, last_front, Serving, Serves}
 use Rattle.al_node.proofs.TakingLemmas.{left_then, left_none}
 
 -- ---- lists of blocks

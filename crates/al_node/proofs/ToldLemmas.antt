@@ -1,5 +1,5 @@
 -- The answers of the states.
-use Rattle.std.proofs.Common.{◌≡◌, ◌≤◌, ◌<◌, ◌⊎◌, inl, inr, ◌-◌, ℕ, suc, Bool, true, false, not, ◌&&◌, if◌then◌else◌, nat_lt, nat_eq, get_or, ap₂, List, [], ◌∷◌, ◌++◌, length, take, refl, sym, ap, ◌∙◌, arith, subst, length-append, Option, Some, None, Result, Ok, Err}
+use Rattle.std.proofs.Common.{◌≡◌, ◌≤◌, ◌<◌, ◌⊎◌, inl, inr, ◌-◌, ℕ, suc, Bool, true, false, not, ◌&&◌, if◌then◌else◌, nat_lt, nat_eq, get_or, ap₂, List, [], ◌∷◌, ◌++◌, length, take, refl, sym, ap, ◌∙◌, arith, subst, length-append, Option, Some, Result, Ok, Err}
 use Rattle.std.proofs.lemmas.List.{take_all}
 use Rattle.std.proofs.lemmas.Bool.{le-ltb, lt-ltb, eqb-true, eq-eqb}
 use Rattle.std.specs.BTreeMap as tree
@@ -10,7 +10,7 @@ use Rattle.al_rows.specs.declared.stored.Stored.{Stored}
 use Rattle.al_block.specs.declared.block.Block.{Block}
 use Rattle.al_block.specs.declared.decoding.BlockFault.{BlockFault}
 use Rattle.al_block.specs.declared.decoding.BlockFault.TheVariants as faults
-use Rattle.al_block.specs.Block.{IsBlock, BlockMeans, BlockMeansUnless}
+use Rattle.al_block.specs.Block.{IsBlock, BlockMeansUnless}
 use Rattle.al_eval.specs.State.{State, Steps, step, replay, row_at}
 use Rattle.al_eval.specs.Steps.{Refusal}
 use Rattle.al_eval.specs.declared.before.EvalRefusal.{EvalRefusal}
@@ -31,7 +31,7 @@ use Rattle.al_node.proofs.PlainLemmas.{and_left, and_right}
 use Rattle.al_node.specs.Held.{Held}
 use Rattle.al_node.specs.Keeping.{Tree, IsStates, held, header_at, rows_at, last_rows}
 use Rattle.al_node.proofs.KeepLemmas.{length-blocks, row_is, level_is, before, block_of_at, one_spelling, follows_replay}
-use Rattle.al_node.specs.Replies.{account_answer, looked_at, too_new, Replies, Posts, IsOutside, IsRepeated, IsJudged, IsBlockOf, IsAnswer, Grows, IsAnswered, ShowsRefusal, judged, refused, taken, fork, wrong_prev, not_built, undecodable}
+use Rattle.al_node.specs.Replies.{account_answer, looked_at, too_new, Replies, Posts, IsOutside, IsRepeated, IsBlockOf, IsAnswered, ShowsRefusal, judged, refused, taken, fork, wrong_prev, not_built, undecodable}
 
 when_false : {A : Type 0} (b : Bool) (x y : A) → b ≡ false → (if b then x else y) ≡ y
 when_false true x y e = absurd cc

@@ -3,11 +3,9 @@ use Rattle.std.specs.Prelude.{ℕ, Bool, true, false, not, nat_eq, ◌&&◌, Lis
 use Rattle.std.specs.List.{list_all}
 use Rattle.std.specs.Str.{bytes_eq}
 use Rattle.al_base.specs.declared.address.Address.{Address}
-use Rattle.al_txn.specs.declared.txn.Txn.{Txn}
 use Rattle.al_txn.specs.declared.txn.Item.{Item}
 use Rattle.al_txn.specs.declared.body.Body.{Body}
 use Rattle.al_txn.specs.declared.body.Body.TheVariants as bodies
-use Rattle.al_txn.specs.declared.body.Pay.{Pay}
 use Rattle.al_block.specs.declared.block.Block.{Block}
 
 abbrev pub is_zero : List ℕ → Bool

@@ -1,7 +1,4 @@
-use Rattle.std.proofs.Common.{rules, ◌≡◌, ◌≤◌, ◌<◌, ◌^◌, ◌∙◌, List, ℕ, [], ◌∷◌, ◌++◌, length, refl, sym, ap, arith, subst, length-append}
-use mathlib.Core.List.{IsPrefix}
-use Rattle.al_base.specs.Causes.{Wrote}
-use Rattle.al_http.specs.Answers.{answer_text, not_built_answer}
+use Rattle.std.proofs.Common.{rules, ◌≡◌, ◌∙◌, [], ◌∷◌, ◌++◌, refl, arith, length-append}
 use Rattle.al_node.specs.declared.states.Told.{Told}
 use Rattle.al_node.specs.Keeping.{held}
 use Rattle.al_node.proofs.TakingLemmas.{request_length}

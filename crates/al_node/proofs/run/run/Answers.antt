@@ -1,5 +1,4 @@
-use Rattle.std.proofs.Common.{rules, ◌≡◌, Some, sym, subst, ap, ◌∙◌, Ok}
-use Rattle.al_node.specs.Opening.{Opens}
+use Rattle.std.proofs.Common.{rules, ◌≡◌, Some, sym, subst}
 use Rattle.al_node.specs.Sessions.{Holds}
 use Rattle.al_node.proofs.RunLemmas.{read_holds, served_runs}
 use Rattle.al_node.proofs.run.run.Goals as goal

@@ -1,4 +1,4 @@
-use Rattle.std.proofs.Common.{refl, sym, ap, ◌∙◌, arith, ◌≡◌, ◌-◌}
+use Rattle.std.proofs.Common.{ap, ◌∙◌, arith, ◌-◌}
 use Rattle.al_node.specs.Keeping.{header_at}
 use Rattle.al_node.proofs.KeepLemmas.{level_at_is, before}
 use Rattle.al_node.proofs.states.level_at.Goals as goal

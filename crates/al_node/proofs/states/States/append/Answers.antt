@@ -1,4 +1,4 @@
-use Rattle.std.proofs.Common.{◌≡◌, ◌++◌, ◌∷◌, [], ◌∙◌, List, ap, sym, subst}
+use Rattle.std.proofs.Common.{◌++◌, ◌∷◌, [], ◌∙◌, List, ap, sym, subst}
 use Rattle.al_block.specs.Block.{IsBlock}
 use Rattle.al_block.specs.Hashes.{header_hash_of}
 use Rattle.al_block.specs.declared.header.Header.{Header}

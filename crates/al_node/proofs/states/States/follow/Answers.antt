@@ -1,7 +1,7 @@
-use Rattle.std.proofs.Common.{rules, ◌≡◌, ◌∙◌, arith, length, subst, sym, List, All, Ok}
+use Rattle.std.proofs.Common.{rules, ◌≡◌, ◌∙◌, length, subst, sym, All, Ok}
 use Rattle.std.specs.FinMap.{from_entries}
 use Rattle.al_rows.specs.Rows.{IsKept}
-use Rattle.al_eval.specs.State.{State, step}
+use Rattle.al_eval.specs.State.{step}
 use Rattle.al_node.specs.Keeping.{Tree, held, rows_at, last_rows}
 use Rattle.al_node.proofs.KeepLemmas.{kept_at, follows_replay}
 use Rattle.al_http.specs.declared.asking.Request.TheVariants as asks

@@ -1,4 +1,4 @@
-use Rattle.std.proofs.Common.{◌≡◌, ◌≤◌, ◌<◌, ◌∙◌, arith, ap, subst, sym, length, All, unwrap_or}
+use Rattle.std.proofs.Common.{◌≡◌, ◌≤◌, ◌∙◌, arith, ap, subst, sym, length, All, unwrap_or}
 use Rattle.al_rows.specs.Rows.{IsKept}
 use Rattle.al_http.specs.Answers.{IsSound}
 use Rattle.std.specs.Option.{option_copied}

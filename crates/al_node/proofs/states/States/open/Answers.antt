@@ -1,4 +1,4 @@
-use Rattle.std.proofs.Common.{◌≡◌, Err, sym, subst, ◌∙◌}
+use Rattle.std.proofs.Common.{Err, sym, subst, ◌∙◌}
 use Rattle.al_node.specs.declared.states.OpenFault.{OpenFault}
 use Rattle.al_node.specs.Opening.{Opens}
 use Rattle.al_eval.proofs.Starts.{genesis_ranged}
