@@ -4,6 +4,7 @@
 pub mod inbox;
 pub mod link;
 pub mod plain;
+pub mod replies;
 pub mod run;
 pub mod states;
 pub mod words;

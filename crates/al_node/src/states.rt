@@ -1,28 +1,29 @@
 //! The states of the ledger, one after each block.
-ghost use Rattle.std.specs.Prelude.{◌≡◌, ◌⊎◌, ◌≤◌, ◌<◌, ◌^◌, ℕ, suc, List, [], ◌∷◌, ◌++◌, length, map, All, IfOk, OnOk, OnErr, Some, if◌then◌else◌};
+ghost use Rattle.std.specs.Prelude.{◌≡◌, ◌⊎◌, ◌≤◌, ◌<◌, ◌^◌, ℕ, suc, List, [], ◌∷◌, ◌++◌, length, map, All, IfOk, OnOk, OnErr};
 ghost use Rattle.std.specs.Option.{option_copied};
 ghost use Rattle.std.specs.BTreeMap as tree;
 ghost use Rattle.al_base.specs.Keys.{key_cmp};
 ghost use Rattle.al_block.specs.Block.{IsBlock};
 ghost use Rattle.al_eval.specs.Past.{entry_of};
 ghost use Rattle.al_eval.specs.Start.{start};
-ghost use Rattle.al_http.specs.Answers.{IsSound, memory_answer, nothing};
-ghost use Rattle.al_http.specs.declared.answer.Answer.TheVariants as answers;
+ghost use Rattle.al_http.specs.Answers.{IsSound, memory_answer};
 ghost use Rattle.al_http.specs.declared.asking.Request.TheVariants as asks;
 ghost use Rattle.al_node.specs.Held.{IsValid};
 ghost use Rattle.al_node.specs.Keeping.{IsStates, Leads, header_at, held, rows_at};
 ghost use Rattle.al_node.specs.Opening.{Opens, fault_of};
-ghost use Rattle.al_node.specs.Replies.{IsAnswered, IsRepeated, ShowsRefusal, account_answer, broken_at, fork, is_shown, looked, misspelled, no_row, not_built, refused_by, taken, too_new, undecodable, wrong_header, wrong_prev, wrong_round};
+ghost use Rattle.al_node.specs.Replies.{IsAnswered, IsRepeated, looked};
 ghost use Rattle.al_rows.specs.Rows.{AccountInRange, IsKept};
 
 use crate::plain::is_plain;
-use al_base::{Address, Bytes, Hash, Key};
-use al_block::{Block, BlockFault, Field, Header, decode_block, header_hash};
-use al_eval::{Before, EvalRefusal, Genesis, GenesisFault, Tail, start_rows, step_rows};
-use al_http::{Answer, ErrorName, More, Request};
-use al_moves::Rule;
-use al_msgpack::DecodeFault;
-use al_rows::{Never, Row, Stored};
+use crate::replies::{
+    account_answer, fork, memory, not_built, refused, taken, too_new, undecodable, wrong_prev,
+    wrong_round,
+};
+use al_base::{Address, Key};
+use al_block::{Block, Header, decode_block, header_hash};
+use al_eval::{Before, Genesis, GenesisFault, Tail, start_rows, step_rows};
+use al_http::{Answer, Request};
+use al_rows::Stored;
 use std::alloc::{AllocError, Global};
 use std::collections::BTreeMap;
 
@@ -317,177 +318,6 @@ fn keep(
     }
 }
 
-// What posted bytes are answered that spell no block.
-fn undecodable(fault: BlockFault) -> Answer
-    ensures { result ≡ undecodable fault }
-{
-    match fault {
-        BlockFault::Decode(fault) => misspelled(fault),
-        BlockFault::Field { name } => misnamed(ErrorName::Field, name),
-        BlockFault::Range { name } => misnamed(ErrorName::Range, name),
-        BlockFault::Memory => memory(),
-    }
-}
-
-fn misnamed(error: ErrorName, name: Bytes) -> Answer
-    ensures { result ≡ answers.Refused 400 error (record nothing { name = Some name }) }
-{
-    Answer::Refused {
-        status: 400,
-        error,
-        more: More {
-            name: Some(name),
-            ..More::nothing()
-        },
-    }
-}
-
-fn misspelled(fault: DecodeFault) -> Answer
-    ensures { result ≡ misspelled fault }
-{
-    match fault {
-        DecodeFault::Truncated { at } => misplaced(ErrorName::Truncated, at),
-        DecodeFault::Malformed { at } => misplaced(ErrorName::Malformed, at),
-        DecodeFault::Trailing { at } => misplaced(ErrorName::Trailing, at),
-        DecodeFault::Memory => memory(),
-    }
-}
-
-fn misplaced(error: ErrorName, at: usize) -> Answer
-    ensures { result ≡ answers.Refused 400 error (record nothing { at = Some at }) }
-{
-    Answer::Refused {
-        status: 400,
-        error,
-        more: More {
-            at: Some(at as u64),
-            ..More::nothing()
-        },
-    }
-}
-
-fn taken(front: u64, round: u64) -> Answer
-    ensures { result ≡ taken front round }
-{
-    Answer::Taken { front, round }
-}
-
-fn wrong_round(front: u64) -> Answer
-    requires { front < 2 ^ 63 }
-    ensures { result ≡ wrong_round front }
-{
-    Answer::Refused {
-        status: 409,
-        error: ErrorName::WrongRound,
-        more: More {
-            front: Some(front),
-            next: Some(front + 1),
-            ..More::nothing()
-        },
-    }
-}
-
-fn fork(front: u64, hash: Hash) -> Answer
-    ensures { result ≡ fork front hash }
-{
-    other_chain(ErrorName::Fork, front, hash)
-}
-
-fn wrong_prev(front: u64, hash: Hash) -> Answer
-    ensures { result ≡ wrong_prev front hash }
-{
-    other_chain(ErrorName::WrongPrev, front, hash)
-}
-
-fn other_chain(error: ErrorName, front: u64, hash: Hash) -> Answer
-    ensures { result ≡ answers.Refused 409 error (record nothing { front = Some front; kept = Some hash }) }
-{
-    Answer::Refused {
-        status: 409,
-        error,
-        more: More {
-            front: Some(front),
-            kept: Some(hash),
-            ..More::nothing()
-        },
-    }
-}
-
-// What a block is answered that the step refuses.
-fn refused(front: u64, refusal: EvalRefusal<Never>) -> Answer
-    ensures { ShowsRefusal front refusal result }
-{
-    match refusal {
-        EvalRefusal::Broken { place, rule } => broken(front, place, &rule),
-        EvalRefusal::Header { field } => wrong_header(front, field),
-        EvalRefusal::View(never) => match never {},
-        EvalRefusal::Memory => memory(),
-    }
-}
-
-fn wrong_header(front: u64, field: Field) -> Answer
-    ensures { result ≡ wrong_header front field }
-{
-    Answer::Refused {
-        status: 422,
-        error: ErrorName::Header,
-        more: More {
-            front: Some(front),
-            field: Some(field),
-            ..More::nothing()
-        },
-    }
-}
-
-fn not_built() -> Answer
-    ensures { result ≡ not_built }
-{
-    Answer::Refused {
-        status: 501,
-        error: ErrorName::NotBuilt,
-        more: More::nothing(),
-    }
-}
-
-fn memory() -> Answer
-    ensures { result ≡ memory_answer }
-{
-    Answer::Refused {
-        status: 507,
-        error: ErrorName::Memory,
-        more: More::nothing(),
-    }
-}
-
-// The refusal by a rule that is shown, or that it is not built.
-fn broken(front: u64, place: usize, rule: &Rule) -> Answer
-    ensures { result ≡ (if is_shown rule.now then broken_at front place rule.now else not_built) }
-{
-    match rule.number {
-        40 => broken_by(front, place, rule, rule.who),
-        42 => broken_by(front, place, rule, None),
-        _ => not_built(),
-    }
-}
-
-fn broken_by(front: u64, place: usize, rule: &Rule, who: Option<Address>) -> Answer
-    ensures { result ≡ refused_by front place rule.now who }
-{
-    Answer::Refused {
-        status: 422,
-        error: ErrorName::Broken,
-        more: More {
-            front: Some(front),
-            place: Some(place as u64),
-            rule: Some(rule.number),
-            has: rule.has,
-            needs: rule.needs,
-            who,
-            ..More::nothing()
-        },
-    }
-}
-
 fn rows_at<'a>(
     rows: &'a BTreeMap<Key, Stored>,
     accepted: &'a [Accepted],
@@ -516,48 +346,4 @@ fn level_at(first: &Header, accepted: &[Accepted], n: usize) -> u64
         return first.level;
     }
     accepted[n - 1].block.header.level
-}
-
-fn account_answer(front: u64, round: u64, level: u64, stored: Option<&Stored>) -> Answer
-    ensures { result ≡ account_answer front round level (option_copied stored.entry) }
-{
-    match stored {
-        None => no_row(front, round),
-        Some(stored) => match &stored.row {
-            Row::Account(row) => Answer::Account {
-                front,
-                round,
-                level,
-                row: *row,
-            },
-            _ => no_row(front, round),
-        },
-    }
-}
-
-fn too_new(front: u64) -> Answer
-    ensures { result ≡ too_new front }
-{
-    Answer::Refused {
-        status: 404,
-        error: ErrorName::TooNew,
-        more: More {
-            front: Some(front),
-            ..More::nothing()
-        },
-    }
-}
-
-fn no_row(front: u64, round: u64) -> Answer
-    ensures { result ≡ no_row front round }
-{
-    Answer::Refused {
-        status: 404,
-        error: ErrorName::NoRow,
-        more: More {
-            front: Some(front),
-            round: Some(round),
-            ..More::nothing()
-        },
-    }
 }
