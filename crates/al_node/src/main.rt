@@ -1,12 +1,16 @@
 //! The ledger's program: its words, one connection, and the states that it is answered from.
 #![tactic(auto)]
 
+#[cfg(test)]
+mod chain_tests;
 pub mod inbox;
 pub mod link;
 pub mod plain;
 pub mod replies;
 pub mod run;
 pub mod states;
+#[cfg(test)]
+mod tests;
 pub mod words;
 
 use al_base::{DirFolder, ReadSource, WriteSink};
