@@ -13,12 +13,13 @@ use Rattle.al_http.specs.Answers.{answer_text, memory_answer, not_built_answer}
 use Rattle.al_http.specs.Requests.{Message, IsRequest, AsksFor, spell, stream_of, IsUnfinished}
 use Rattle.al_http.specs.declared.answer.Answer.{Answer}
 use Rattle.al_http.specs.declared.asking.Request.{Request}
+use Rattle.al_node.specs.declared.link.Ended.{Ended}
 use Rattle.al_node.specs.declared.link.Ended.TheVariants as ended
 use Rattle.al_node.specs.declared.states.Told.{Told}
 use Rattle.al_node.specs.Held.{Held}
 use Rattle.al_node.specs.Replies.{Replies, IsAnswer, Grows, IsAnswered}
 use Rattle.al_node.specs.Taking.{Grown, IsRefusedPiece}
-use Rattle.al_node.specs.Connection.{told_text, IsToldOf, Answers, last_front, Serving, Serves}
+use Rattle.al_node.specs.Connection.{told_text, IsToldOf, Answers, last_front, Serving, Serves, EndsAs, IsWritten}
 use Rattle.al_node.proofs.TakingLemmas.{left_then, left_none}
 
 -- ---- lists of blocks
@@ -195,9 +196,10 @@ goes_on before after a b w v u rest requests told m t x written put = record {
 
 -- ---- its ends
 
--- the source ended behind a request
-pub finished : (before after : Held) (a b w v : Option (List ℕ)) (waiting : List ℕ) (requests : List Message) (told : List Told) → Serving before after a b w v waiting requests told → length waiting ≡ 0 → IsAtEnd b → Serves before after a b w v ended.Finished
-finished before after a b w v waiting requests told s none end = (
+-- no text stands behind the answers
+ends_whole : (before after : Held) (a b w v : Option (List ℕ)) (waiting : List ℕ) (requests : List Message) (told : List Told) (end : Ended) → Serving before after a b w v waiting requests told → IsWritten end (flat_map told_text told) (map told_text told ++ [])
+    → EndsAs end b (stream_of requests waiting) requests waiting [] → Serves before after a b w v end
+ends_whole before after a b w v waiting requests told end s texts ends = (
   stream_of requests waiting,
   flat_map told_text told,
   requests,
@@ -206,136 +208,13 @@ finished before after a b w v waiting requests told s none end = (
   [],
   s.cut,
   s.written,
-  record {
-    cut = refl;
-    each = s.each;
-    texts = joined_none told;
-    ends = (refl, nil_from_length waiting none, end);
-    origin = s.origin;
-    lists = s.lists;
-    answers = s.answers;
-    top = s.top;
-  },
+  record { cut = refl; each = s.each; texts = texts; ends = ends; origin = s.origin; lists = s.lists; answers = s.answers; top = s.top },
 )
 
--- the source ended inside a request
-pub cut_short : (before after : Held) (a b w v : Option (List ℕ)) (waiting : List ℕ) (requests : List Message) (told : List Told) (at : ℕ) → Serving before after a b w v waiting requests told → 0 < length waiting → IsUnfinished waiting → IsAtEnd b
-    → at ≡ length (flat_map spell requests) + length waiting → Serves before after a b w v (ended.CutShort at)
-cut_short before after a b w v waiting requests told at s some part end is = (
-  stream_of requests waiting,
-  flat_map told_text told,
-  requests,
-  told,
-  waiting,
-  [],
-  s.cut,
-  s.written,
-  record {
-    cut = refl;
-    each = s.each;
-    texts = joined_none told;
-    ends = (refl, some, part, end, is ∙ sym (length-append (flat_map spell requests) waiting));
-    origin = s.origin;
-    lists = s.lists;
-    answers = s.answers;
-    top = s.top;
-  },
-)
-
-pub source_failed : (before after : Held) (a b w v : Option (List ℕ)) (waiting : List ℕ) (requests : List Message) (told : List Told) → Serving before after a b w v waiting requests told → IsUnfinished waiting → Serves before after a b w v ended.SourceFault
-source_failed before after a b w v waiting requests told s part = (
-  stream_of requests waiting,
-  flat_map told_text told,
-  requests,
-  told,
-  waiting,
-  [],
-  s.cut,
-  s.written,
-  record {
-    cut = refl;
-    each = s.each;
-    texts = joined_none told;
-    ends = (refl, part);
-    origin = s.origin;
-    lists = s.lists;
-    answers = s.answers;
-    top = s.top;
-  },
-)
-
--- bytes may have left the source that do not wait
-pub no_memory : (before after : Held) (a b c w v : Option (List ℕ)) (waiting lost : List ℕ) (requests : List Message) (told : List Told) → Serving before after a b w v waiting requests told → Left b c lost → Serves before after a c w v ended.Memory
-no_memory before after a b c w v waiting lost requests told s left = (
-  stream_of requests (waiting ++ lost),
-  flat_map told_text told,
-  requests,
-  told,
-  waiting ++ lost,
-  [],
-  subst (Left a c) (append_assoc (flat_map spell requests) waiting lost) (left_then a b c (stream_of requests waiting) lost s.cut left),
-  s.written,
-  record {
-    cut = refl;
-    each = s.each;
-    texts = joined_none told;
-    ends = refl;
-    origin = s.origin;
-    lists = s.lists;
-    answers = s.answers;
-    top = s.top;
-  },
-)
-
-pub spent : (before after : Held) (a b w v : Option (List ℕ)) (waiting : List ℕ) (requests : List Message) (told : List Told) → Serving before after a b w v waiting requests told → length requests ≡ 1000000 → Serves before after a b w v ended.Spent
-spent before after a b w v waiting requests told s all = (
-  stream_of requests waiting,
-  flat_map told_text told,
-  requests,
-  told,
-  waiting,
-  [],
-  s.cut,
-  s.written,
-  record {
-    cut = refl;
-    each = s.each;
-    texts = joined_none told;
-    ends = (refl, all);
-    origin = s.origin;
-    lists = s.lists;
-    answers = s.answers;
-    top = s.top;
-  },
-)
-
--- a piece was refused
-pub unreadable : (before after : Held) (a b w v u : Option (List ℕ)) (waiting text : List ℕ) (requests : List Message) (told : List Told) → Serving before after a b w v waiting requests told → IsRefusedPiece waiting → text ≡ answer_text not_built_answer → Wrote v u text → Serves before after a b w u ended.Unreadable
-unreadable before after a b w v u waiting text requests told s piece is put = (
-  stream_of requests waiting,
-  flat_map told_text told ++ text,
-  requests,
-  told,
-  waiting,
-  text ∷ [],
-  s.cut,
-  wrote_then w v u (flat_map told_text told) text s.written put,
-  record {
-    cut = refl;
-    each = s.each;
-    texts = joined_more told text;
-    ends = (piece, ap (λ zs. zs ∷ []) is);
-    origin = s.origin;
-    lists = s.lists;
-    answers = s.answers;
-    top = s.top;
-  },
-)
-
--- the refusal of a piece could not be written
-pub refusal_failed : (before after : Held) (a b w v u : Option (List ℕ)) (waiting text part : List ℕ) (requests : List Message) (told : List Told) → Serving before after a b w v waiting requests told → IsRefusedPiece waiting → text ≡ answer_text not_built_answer → IsPrefix part text → Wrote v u part
-    → Serves before after a b w u ended.SinkFault
-refusal_failed before after a b w v u waiting text part requests told s piece is front put = (
+-- a text stands behind the answers, and this part of it was written
+ends_behind : (before after : Held) (a b w v u : Option (List ℕ)) (waiting text part : List ℕ) (requests : List Message) (told : List Told) (end : Ended) → Serving before after a b w v waiting requests told → IsWritten end (flat_map told_text told ++ part) (map told_text told ++ text ∷ [])
+    → EndsAs end b (stream_of requests waiting) requests waiting (text ∷ []) → Wrote v u part → Serves before after a b w u end
+ends_behind before after a b w v u waiting text part requests told end s texts ends put = (
   stream_of requests waiting,
   flat_map told_text told ++ part,
   requests,
@@ -344,17 +223,40 @@ refusal_failed before after a b w v u waiting text part requests told s piece is
   text ∷ [],
   s.cut,
   wrote_then w v u (flat_map told_text told) part s.written put,
-  record {
-    cut = refl;
-    each = s.each;
-    texts = (map told_text told, text, part, refl, front, ap (λ zs. zs ++ part) (sym (joined told)));
-    ends = inr (piece, ap (λ zs. zs ∷ []) is);
-    origin = s.origin;
-    lists = s.lists;
-    answers = s.answers;
-    top = s.top;
-  },
+  record { cut = refl; each = s.each; texts = texts; ends = ends; origin = s.origin; lists = s.lists; answers = s.answers; top = s.top },
 )
+
+-- the source ended behind a request
+pub finished : (before after : Held) (a b w v : Option (List ℕ)) (waiting : List ℕ) (requests : List Message) (told : List Told) → Serving before after a b w v waiting requests told → length waiting ≡ 0 → IsAtEnd b → Serves before after a b w v ended.Finished
+finished before after a b w v waiting requests told s none end = ends_whole before after a b w v waiting requests told ended.Finished s (joined_none told) (refl, nil_from_length waiting none, end)
+
+-- the source ended inside a request
+pub cut_short : (before after : Held) (a b w v : Option (List ℕ)) (waiting : List ℕ) (requests : List Message) (told : List Told) (at : ℕ) → Serving before after a b w v waiting requests told → 0 < length waiting → IsUnfinished waiting → IsAtEnd b
+    → at ≡ length (flat_map spell requests) + length waiting → Serves before after a b w v (ended.CutShort at)
+cut_short before after a b w v waiting requests told at s some part end is =
+    ends_whole before after a b w v waiting requests told (ended.CutShort at) s (joined_none told) (refl, some, part, end, is ∙ sym (length-append (flat_map spell requests) waiting))
+
+pub source_failed : (before after : Held) (a b w v : Option (List ℕ)) (waiting : List ℕ) (requests : List Message) (told : List Told) → Serving before after a b w v waiting requests told → IsUnfinished waiting → Serves before after a b w v ended.SourceFault
+source_failed before after a b w v waiting requests told s part = ends_whole before after a b w v waiting requests told ended.SourceFault s (joined_none told) (refl, part)
+
+-- bytes may have left the source that do not wait
+pub no_memory : (before after : Held) (a b c w v : Option (List ℕ)) (waiting lost : List ℕ) (requests : List Message) (told : List Told) → Serving before after a b w v waiting requests told → Left b c lost → Serves before after a c w v ended.Memory
+no_memory before after a b c w v waiting lost requests told s left =
+    let more : Grown waiting (waiting ++ lost) b c = record { got = lost; more = refl; left = left } in
+    ends_whole before after a c w v (waiting ++ lost) requests told ended.Memory (took before after a b c w v waiting (waiting ++ lost) requests told s more) (joined_none told) refl
+
+pub spent : (before after : Held) (a b w v : Option (List ℕ)) (waiting : List ℕ) (requests : List Message) (told : List Told) → Serving before after a b w v waiting requests told → length requests ≡ 1000000 → Serves before after a b w v ended.Spent
+spent before after a b w v waiting requests told s all = ends_whole before after a b w v waiting requests told ended.Spent s (joined_none told) (refl, all)
+
+-- a piece was refused
+pub unreadable : (before after : Held) (a b w v u : Option (List ℕ)) (waiting text : List ℕ) (requests : List Message) (told : List Told) → Serving before after a b w v waiting requests told → IsRefusedPiece waiting → text ≡ answer_text not_built_answer → Wrote v u text → Serves before after a b w u ended.Unreadable
+unreadable before after a b w v u waiting text requests told s piece is put = ends_behind before after a b w v u waiting text text requests told ended.Unreadable s (joined_more told text) (piece, ap (λ zs. zs ∷ []) is) put
+
+-- the refusal of a piece could not be written
+pub refusal_failed : (before after : Held) (a b w v u : Option (List ℕ)) (waiting text part : List ℕ) (requests : List Message) (told : List Told) → Serving before after a b w v waiting requests told → IsRefusedPiece waiting → text ≡ answer_text not_built_answer → IsPrefix part text → Wrote v u part
+    → Serves before after a b w u ended.SinkFault
+refusal_failed before after a b w v u waiting text part requests told s piece is front put =
+    ends_behind before after a b w v u waiting text part requests told ended.SinkFault s (map told_text told, text, part, refl, front, ap (λ zs. zs ++ part) (sym (joined told))) (inr (piece, ap (λ zs. zs ∷ []) is)) put
 
 -- an answer could not be written
 pub answer_failed : (before after : Held) (a b w v u : Option (List ℕ)) (rest : List ℕ) (requests : List Message) (told : List Told) (m : Message) (t : Told) (part : List ℕ) → Replied before after a b rest (requests ++ m ∷ []) (told ++ t ∷ []) → Wrote w v (flat_map told_text told)
