@@ -115,176 +115,119 @@ const REFUSALS: [Row; 12] = [
 const BLOCK: &[u8; 373] =
     b"\x82\xa1b\x88\xa4fees\xc4 \x01\x01\x01\x01\x01\x01\x01\x01\x01\x01\x01\x01\x01\x01\x01\x01\x01\x01\x01\x01\x01\x01\x01\x01\x01\x01\x01\x01\x01\x01\x01\x01\xa2gh\xc4 fr8\xd2aW]\xdb\x91\xa6r\x1bG\x8b\x17\xefo\xf04\xf0\xa1\xa0x?\xe3R\xddd\xb0\xa0\xf3)\xa4prev\xc4 H\xe7\xfaD\xbe\xa4\xc1\x8aERa\xc9\xc0\xa3H\xe9_\xfc\xbe\xd6\x01\xa1\xc9)|m\xea\xc7!d\x8a\xff\xa3rnd\x01\xa6rwcalr\xce\x00\x07\xa1!\xa3rwd\xc4 \x02\x02\x02\x02\x02\x02\x02\x02\x02\x02\x02\x02\x02\x02\x02\x02\x02\x02\x02\x02\x02\x02\x02\x02\x02\x02\x02\x02\x02\x02\x02\x02\xa2tc\x01\xa3txn\xc4 \xee|\xcd\x01\xf0\r\xa7+F\xa4\x90\xb6\x9b\xf5f\xfd\xd9\"\xb5\xe1\x8d\xa1\xf7\xd1L\xa3\xe4\xef\x10\x82\xd4\xb6\xa1t\x91\x81\xa3txn\x88\xa3amt\xce\x00\x04\x93\xe0\xa3fee\xcd\x03\xe8\xa2fv\x01\xa2gh\xc4 fr8\xd2aW]\xdb\x91\xa6r\x1bG\x8b\x17\xefo\xf04\xf0\xa1\xa0x?\xe3R\xddd\xb0\xa0\xf3)\xa2lv\xcd\x03\xe8\xa3rcv\xc4 \x04\x04\x04\x04\x04\x04\x04\x04\x04\x04\x04\x04\x04\x04\x04\x04\x04\x04\x04\x04\x04\x04\x04\x04\x04\x04\x04\x04\x04\x04\x04\x04\xa3snd\xc4 \x03\x03\x03\x03\x03\x03\x03\x03\x03\x03\x03\x03\x03\x03\x03\x03\x03\x03\x03\x03\x03\x03\x03\x03\x03\x03\x03\x03\x03\x03\x03\x03\xa4type\xa3pay";
 
-/// The answers to that block with one byte raised by one, by the definitions: to how many bytes in a row, the status, and the text.
-const RAISED: [(usize, u64, &str); 111] = [
-    (1, 400, "{\"at\":373,\"error\":\"Truncated\"}"),
-    (1, 400, "{\"at\":9,\"error\":\"Malformed\"}"),
-    (1, 400, "{\"error\":\"Field\",\"name\":\"63\"}"),
-    (1, 400, "{\"at\":217,\"error\":\"Malformed\"}"),
-    (1, 400, "{\"at\":11,\"error\":\"Malformed\"}"),
-    (1, 400, "{\"error\":\"Field\",\"name\":\"67656573\"}"),
-    (1, 400, "{\"error\":\"Field\",\"name\":\"66666573\"}"),
-    (1, 400, "{\"error\":\"Field\",\"name\":\"66656673\"}"),
-    (1, 400, "{\"error\":\"Field\",\"name\":\"66656574\"}"),
-    (1, 400, "{\"at\":373,\"error\":\"Truncated\"}"),
-    (1, 400, "{\"at\":44,\"error\":\"Malformed\"}"),
-    (
-        32,
-        422,
-        "{\"error\":\"Header\",\"field\":\"fees\",\"front\":0}",
-    ),
-    (1, 400, "{\"at\":48,\"error\":\"Malformed\"}"),
-    (1, 400, "{\"error\":\"Field\",\"name\":\"6868\"}"),
-    (1, 400, "{\"error\":\"Field\",\"name\":\"6769\"}"),
-    (1, 400, "{\"at\":373,\"error\":\"Truncated\"}"),
-    (1, 400, "{\"at\":81,\"error\":\"Malformed\"}"),
-    (
-        32,
-        422,
-        "{\"error\":\"Header\",\"field\":\"gh\",\"front\":0}",
-    ),
-    (1, 400, "{\"at\":87,\"error\":\"Malformed\"}"),
-    (1, 400, "{\"error\":\"Field\",\"name\":\"71726576\"}"),
-    (1, 400, "{\"error\":\"Field\",\"name\":\"70736576\"}"),
-    (1, 400, "{\"error\":\"Field\",\"name\":\"70726676\"}"),
-    (1, 400, "{\"error\":\"Field\",\"name\":\"70726577\"}"),
-    (1, 400, "{\"at\":373,\"error\":\"Truncated\"}"),
-    (1, 400, "{\"at\":120,\"error\":\"Malformed\"}"),
-    (
-        32,
-        409,
-        "{\"error\":\"WrongPrev\",\"front\":0,\"kept\":\"JDT7URF6UTAYURKSMHE4BI2I5FP7ZPWWAGQ4SKL4NXVMOILERL7Q\"}",
-    ),
-    (1, 400, "{\"at\":131,\"error\":\"Malformed\"}"),
-    (1, 400, "{\"at\":125,\"error\":\"Malformed\"}"),
-    (1, 400, "{\"error\":\"Field\",\"name\":\"726f64\"}"),
-    (1, 400, "{\"error\":\"Field\",\"name\":\"726e65\"}"),
-    (1, 409, "{\"error\":\"WrongRound\",\"front\":0,\"next\":1}"),
-    (1, 400, "{\"at\":133,\"error\":\"Malformed\"}"),
-    (1, 400, "{\"at\":137,\"error\":\"Malformed\"}"),
-    (1, 400, "{\"at\":138,\"error\":\"Malformed\"}"),
-    (1, 400, "{\"at\":139,\"error\":\"Malformed\"}"),
-    (1, 400, "{\"error\":\"Field\",\"name\":\"727763626c72\"}"),
-    (1, 400, "{\"error\":\"Field\",\"name\":\"727763616d72\"}"),
-    (1, 400, "{\"error\":\"Field\",\"name\":\"727763616c73\"}"),
-    (1, 400, "{\"at\":140,\"error\":\"Malformed\"}"),
-    (
-        4,
-        422,
-        "{\"error\":\"Header\",\"field\":\"rwcalr\",\"front\":0}",
-    ),
-    (1, 400, "{\"at\":142,\"error\":\"Malformed\"}"),
-    (1, 400, "{\"error\":\"Field\",\"name\":\"737764\"}"),
-    (1, 400, "{\"error\":\"Field\",\"name\":\"727864\"}"),
-    (1, 400, "{\"error\":\"Field\",\"name\":\"727765\"}"),
-    (1, 400, "{\"at\":373,\"error\":\"Truncated\"}"),
-    (1, 400, "{\"at\":175,\"error\":\"Malformed\"}"),
-    (
-        32,
-        422,
-        "{\"error\":\"Header\",\"field\":\"rwd\",\"front\":0}",
-    ),
-    (1, 400, "{\"at\":182,\"error\":\"Malformed\"}"),
-    (1, 400, "{\"at\":179,\"error\":\"Malformed\"}"),
-    (1, 400, "{\"error\":\"Field\",\"name\":\"7464\"}"),
-    (
-        1,
-        422,
-        "{\"error\":\"Header\",\"field\":\"tc\",\"front\":0}",
-    ),
-    (1, 400, "{\"at\":184,\"error\":\"Malformed\"}"),
-    (1, 400, "{\"error\":\"Field\",\"name\":\"75786e\"}"),
-    (1, 400, "{\"error\":\"Field\",\"name\":\"74796e\"}"),
-    (1, 400, "{\"error\":\"Field\",\"name\":\"74786f\"}"),
-    (1, 400, "{\"at\":373,\"error\":\"Truncated\"}"),
-    (1, 400, "{\"at\":217,\"error\":\"Malformed\"}"),
-    (
-        32,
-        422,
-        "{\"error\":\"Header\",\"field\":\"txn\",\"front\":0}",
-    ),
-    (1, 400, "{\"error\":\"Field\",\"name\":\"7491\"}"),
-    (1, 400, "{\"error\":\"Field\",\"name\":\"75\"}"),
-    (2, 400, "{\"at\":373,\"error\":\"Truncated\"}"),
-    (1, 400, "{\"at\":229,\"error\":\"Trailing\"}"),
-    (1, 400, "{\"error\":\"Field\",\"name\":\"75786e\"}"),
-    (1, 400, "{\"error\":\"Field\",\"name\":\"74796e\"}"),
-    (1, 400, "{\"error\":\"Field\",\"name\":\"74786f\"}"),
-    (1, 400, "{\"at\":373,\"error\":\"Truncated\"}"),
-    (1, 400, "{\"at\":231,\"error\":\"Malformed\"}"),
-    (1, 400, "{\"error\":\"Field\",\"name\":\"626d74\"}"),
-    (1, 400, "{\"error\":\"Field\",\"name\":\"616e74\"}"),
-    (1, 400, "{\"error\":\"Field\",\"name\":\"616d75\"}"),
-    (1, 400, "{\"at\":238,\"error\":\"Malformed\"}"),
-    (
-        4,
-        422,
-        "{\"error\":\"Header\",\"field\":\"txn\",\"front\":0}",
-    ),
-    (1, 400, "{\"at\":240,\"error\":\"Malformed\"}"),
-    (1, 400, "{\"at\":242,\"error\":\"Malformed\"}"),
-    (1, 400, "{\"error\":\"Field\",\"name\":\"666665\"}"),
-    (1, 400, "{\"error\":\"Field\",\"name\":\"666566\"}"),
-    (1, 400, "{\"at\":243,\"error\":\"Malformed\"}"),
-    (
-        2,
-        422,
-        "{\"error\":\"Header\",\"field\":\"txn\",\"front\":0}",
-    ),
-    (1, 400, "{\"at\":248,\"error\":\"Malformed\"}"),
-    (1, 400, "{\"at\":247,\"error\":\"Malformed\"}"),
-    (1, 400, "{\"error\":\"Field\",\"name\":\"6677\"}"),
-    (
-        1,
-        422,
-        "{\"error\":\"Header\",\"field\":\"txn\",\"front\":0}",
-    ),
-    (1, 400, "{\"at\":250,\"error\":\"Malformed\"}"),
-    (1, 400, "{\"error\":\"Field\",\"name\":\"6868\"}"),
-    (1, 400, "{\"error\":\"Field\",\"name\":\"6769\"}"),
-    (1, 400, "{\"at\":373,\"error\":\"Truncated\"}"),
-    (1, 400, "{\"at\":283,\"error\":\"Malformed\"}"),
-    (
-        32,
-        422,
-        "{\"error\":\"Header\",\"field\":\"txn\",\"front\":0}",
-    ),
-    (1, 400, "{\"at\":287,\"error\":\"Malformed\"}"),
-    (1, 400, "{\"error\":\"Field\",\"name\":\"6d76\"}"),
-    (1, 400, "{\"error\":\"Field\",\"name\":\"6c77\"}"),
-    (1, 400, "{\"at\":290,\"error\":\"Malformed\"}"),
-    (
-        2,
-        422,
-        "{\"error\":\"Header\",\"field\":\"txn\",\"front\":0}",
-    ),
-    (1, 400, "{\"at\":294,\"error\":\"Malformed\"}"),
-    (1, 400, "{\"error\":\"Field\",\"name\":\"736376\"}"),
-    (1, 400, "{\"error\":\"Field\",\"name\":\"726476\"}"),
-    (1, 400, "{\"error\":\"Field\",\"name\":\"726377\"}"),
-    (1, 400, "{\"at\":373,\"error\":\"Truncated\"}"),
-    (1, 400, "{\"at\":327,\"error\":\"Malformed\"}"),
-    (
-        32,
-        422,
-        "{\"error\":\"Header\",\"field\":\"txn\",\"front\":0}",
-    ),
-    (1, 400, "{\"at\":332,\"error\":\"Malformed\"}"),
-    (1, 400, "{\"error\":\"Field\",\"name\":\"746e64\"}"),
-    (1, 400, "{\"error\":\"Field\",\"name\":\"736f64\"}"),
-    (1, 400, "{\"error\":\"Field\",\"name\":\"736e65\"}"),
-    (1, 400, "{\"at\":373,\"error\":\"Truncated\"}"),
-    (1, 400, "{\"at\":365,\"error\":\"Malformed\"}"),
-    (
-        32,
-        422,
-        "{\"error\":\"Header\",\"field\":\"txn\",\"front\":0}",
-    ),
-    (1, 400, "{\"at\":371,\"error\":\"Trailing\"}"),
-    (4, 400, "{\"error\":\"Range\",\"name\":\"74797065\"}"),
-    (1, 400, "{\"at\":373,\"error\":\"Truncated\"}"),
-    (3, 400, "{\"error\":\"Range\",\"name\":\"74797065\"}"),
-];
+/// The answers to that block with one byte raised by one, by the definitions. A line has to how many
+/// bytes in a row, the status, and the text.
+const RAISED: &str = "1 400 {\"at\":373,\"error\":\"Truncated\"}\n\
+1 400 {\"at\":9,\"error\":\"Malformed\"}\n\
+1 400 {\"error\":\"Field\",\"name\":\"63\"}\n\
+1 400 {\"at\":217,\"error\":\"Malformed\"}\n\
+1 400 {\"at\":11,\"error\":\"Malformed\"}\n\
+1 400 {\"error\":\"Field\",\"name\":\"67656573\"}\n\
+1 400 {\"error\":\"Field\",\"name\":\"66666573\"}\n\
+1 400 {\"error\":\"Field\",\"name\":\"66656673\"}\n\
+1 400 {\"error\":\"Field\",\"name\":\"66656574\"}\n\
+1 400 {\"at\":373,\"error\":\"Truncated\"}\n\
+1 400 {\"at\":44,\"error\":\"Malformed\"}\n\
+32 422 {\"error\":\"Header\",\"field\":\"fees\",\"front\":0}\n\
+1 400 {\"at\":48,\"error\":\"Malformed\"}\n\
+1 400 {\"error\":\"Field\",\"name\":\"6868\"}\n\
+1 400 {\"error\":\"Field\",\"name\":\"6769\"}\n\
+1 400 {\"at\":373,\"error\":\"Truncated\"}\n\
+1 400 {\"at\":81,\"error\":\"Malformed\"}\n\
+32 422 {\"error\":\"Header\",\"field\":\"gh\",\"front\":0}\n\
+1 400 {\"at\":87,\"error\":\"Malformed\"}\n\
+1 400 {\"error\":\"Field\",\"name\":\"71726576\"}\n\
+1 400 {\"error\":\"Field\",\"name\":\"70736576\"}\n\
+1 400 {\"error\":\"Field\",\"name\":\"70726676\"}\n\
+1 400 {\"error\":\"Field\",\"name\":\"70726577\"}\n\
+1 400 {\"at\":373,\"error\":\"Truncated\"}\n\
+1 400 {\"at\":120,\"error\":\"Malformed\"}\n\
+32 409 {\"error\":\"WrongPrev\",\"front\":0,\"kept\":\"JDT7URF6UTAYURKSMHE4BI2I5FP7ZPWWAGQ4SKL4NXVMOILERL7Q\"}\n\
+1 400 {\"at\":131,\"error\":\"Malformed\"}\n\
+1 400 {\"at\":125,\"error\":\"Malformed\"}\n\
+1 400 {\"error\":\"Field\",\"name\":\"726f64\"}\n\
+1 400 {\"error\":\"Field\",\"name\":\"726e65\"}\n\
+1 409 {\"error\":\"WrongRound\",\"front\":0,\"next\":1}\n\
+1 400 {\"at\":133,\"error\":\"Malformed\"}\n\
+1 400 {\"at\":137,\"error\":\"Malformed\"}\n\
+1 400 {\"at\":138,\"error\":\"Malformed\"}\n\
+1 400 {\"at\":139,\"error\":\"Malformed\"}\n\
+1 400 {\"error\":\"Field\",\"name\":\"727763626c72\"}\n\
+1 400 {\"error\":\"Field\",\"name\":\"727763616d72\"}\n\
+1 400 {\"error\":\"Field\",\"name\":\"727763616c73\"}\n\
+1 400 {\"at\":140,\"error\":\"Malformed\"}\n\
+4 422 {\"error\":\"Header\",\"field\":\"rwcalr\",\"front\":0}\n\
+1 400 {\"at\":142,\"error\":\"Malformed\"}\n\
+1 400 {\"error\":\"Field\",\"name\":\"737764\"}\n\
+1 400 {\"error\":\"Field\",\"name\":\"727864\"}\n\
+1 400 {\"error\":\"Field\",\"name\":\"727765\"}\n\
+1 400 {\"at\":373,\"error\":\"Truncated\"}\n\
+1 400 {\"at\":175,\"error\":\"Malformed\"}\n\
+32 422 {\"error\":\"Header\",\"field\":\"rwd\",\"front\":0}\n\
+1 400 {\"at\":182,\"error\":\"Malformed\"}\n\
+1 400 {\"at\":179,\"error\":\"Malformed\"}\n\
+1 400 {\"error\":\"Field\",\"name\":\"7464\"}\n\
+1 422 {\"error\":\"Header\",\"field\":\"tc\",\"front\":0}\n\
+1 400 {\"at\":184,\"error\":\"Malformed\"}\n\
+1 400 {\"error\":\"Field\",\"name\":\"75786e\"}\n\
+1 400 {\"error\":\"Field\",\"name\":\"74796e\"}\n\
+1 400 {\"error\":\"Field\",\"name\":\"74786f\"}\n\
+1 400 {\"at\":373,\"error\":\"Truncated\"}\n\
+1 400 {\"at\":217,\"error\":\"Malformed\"}\n\
+32 422 {\"error\":\"Header\",\"field\":\"txn\",\"front\":0}\n\
+1 400 {\"error\":\"Field\",\"name\":\"7491\"}\n\
+1 400 {\"error\":\"Field\",\"name\":\"75\"}\n\
+2 400 {\"at\":373,\"error\":\"Truncated\"}\n\
+1 400 {\"at\":229,\"error\":\"Trailing\"}\n\
+1 400 {\"error\":\"Field\",\"name\":\"75786e\"}\n\
+1 400 {\"error\":\"Field\",\"name\":\"74796e\"}\n\
+1 400 {\"error\":\"Field\",\"name\":\"74786f\"}\n\
+1 400 {\"at\":373,\"error\":\"Truncated\"}\n\
+1 400 {\"at\":231,\"error\":\"Malformed\"}\n\
+1 400 {\"error\":\"Field\",\"name\":\"626d74\"}\n\
+1 400 {\"error\":\"Field\",\"name\":\"616e74\"}\n\
+1 400 {\"error\":\"Field\",\"name\":\"616d75\"}\n\
+1 400 {\"at\":238,\"error\":\"Malformed\"}\n\
+4 422 {\"error\":\"Header\",\"field\":\"txn\",\"front\":0}\n\
+1 400 {\"at\":240,\"error\":\"Malformed\"}\n\
+1 400 {\"at\":242,\"error\":\"Malformed\"}\n\
+1 400 {\"error\":\"Field\",\"name\":\"666665\"}\n\
+1 400 {\"error\":\"Field\",\"name\":\"666566\"}\n\
+1 400 {\"at\":243,\"error\":\"Malformed\"}\n\
+2 422 {\"error\":\"Header\",\"field\":\"txn\",\"front\":0}\n\
+1 400 {\"at\":248,\"error\":\"Malformed\"}\n\
+1 400 {\"at\":247,\"error\":\"Malformed\"}\n\
+1 400 {\"error\":\"Field\",\"name\":\"6677\"}\n\
+1 422 {\"error\":\"Header\",\"field\":\"txn\",\"front\":0}\n\
+1 400 {\"at\":250,\"error\":\"Malformed\"}\n\
+1 400 {\"error\":\"Field\",\"name\":\"6868\"}\n\
+1 400 {\"error\":\"Field\",\"name\":\"6769\"}\n\
+1 400 {\"at\":373,\"error\":\"Truncated\"}\n\
+1 400 {\"at\":283,\"error\":\"Malformed\"}\n\
+32 422 {\"error\":\"Header\",\"field\":\"txn\",\"front\":0}\n\
+1 400 {\"at\":287,\"error\":\"Malformed\"}\n\
+1 400 {\"error\":\"Field\",\"name\":\"6d76\"}\n\
+1 400 {\"error\":\"Field\",\"name\":\"6c77\"}\n\
+1 400 {\"at\":290,\"error\":\"Malformed\"}\n\
+2 422 {\"error\":\"Header\",\"field\":\"txn\",\"front\":0}\n\
+1 400 {\"at\":294,\"error\":\"Malformed\"}\n\
+1 400 {\"error\":\"Field\",\"name\":\"736376\"}\n\
+1 400 {\"error\":\"Field\",\"name\":\"726476\"}\n\
+1 400 {\"error\":\"Field\",\"name\":\"726377\"}\n\
+1 400 {\"at\":373,\"error\":\"Truncated\"}\n\
+1 400 {\"at\":327,\"error\":\"Malformed\"}\n\
+32 422 {\"error\":\"Header\",\"field\":\"txn\",\"front\":0}\n\
+1 400 {\"at\":332,\"error\":\"Malformed\"}\n\
+1 400 {\"error\":\"Field\",\"name\":\"746e64\"}\n\
+1 400 {\"error\":\"Field\",\"name\":\"736f64\"}\n\
+1 400 {\"error\":\"Field\",\"name\":\"736e65\"}\n\
+1 400 {\"at\":373,\"error\":\"Truncated\"}\n\
+1 400 {\"at\":365,\"error\":\"Malformed\"}\n\
+32 422 {\"error\":\"Header\",\"field\":\"txn\",\"front\":0}\n\
+1 400 {\"at\":371,\"error\":\"Trailing\"}\n\
+4 400 {\"error\":\"Range\",\"name\":\"74797065\"}\n\
+1 400 {\"at\":373,\"error\":\"Truncated\"}\n\
+3 400 {\"error\":\"Range\",\"name\":\"74797065\"}";
 
 const TAKEN: &str = "{\"front\":1,\"round\":1}";
 
@@ -325,21 +268,40 @@ fn cut(alloc: Global, asked: &mut Vec<u8>, told: &mut Vec<u8>) -> Result<(), All
     Ok(())
 }
 
+/// An answer, and to how many bytes in a row it is given.
+#[derive(Clone, Copy)]
+struct Run<'a> {
+    count: usize,
+    status: u64,
+    text: &'a str,
+}
+
 // The block with each of so many bytes from a place on raised by one.
 fn raise(
     alloc: Global,
     asked: &mut Vec<u8>,
     told: &mut Vec<u8>,
     from: usize,
-    run: (usize, u64, &str),
+    run: &Run<'_>,
 ) -> Result<(), AllocError> {
-    for at in from..from.saturating_add(run.0).min(BLOCK.len()) {
+    for at in from..from.saturating_add(run.count).min(BLOCK.len()) {
         let mut block = *BLOCK;
         block[at] = block[at].wrapping_add(1);
         ask(alloc, asked, &block)?;
-        tell(alloc, told, run.1, run.2)?;
+        tell(alloc, told, run.status, run.text)?;
     }
     Ok(())
+}
+
+// What a line of the table says.
+fn run_of(line: &str) -> Option<Run<'_>> {
+    let (count, rest) = line.split_once(' ')?;
+    let (status, text) = rest.split_once(' ')?;
+    Some(Run {
+        count: count.parse().ok()?,
+        status: status.parse().ok()?,
+        text,
+    })
 }
 
 // Whatever was refused before, the block is taken behind it, once.
@@ -350,9 +312,10 @@ fn each_byte_is_judged(rt: HostRuntime) -> Result<(), Fail> {
     let mut told = Vec::new(alloc);
     cut(alloc, &mut asked, &mut told)?;
     let mut from = 0usize;
-    for run in RAISED {
-        raise(alloc, &mut asked, &mut told, from, run)?;
-        from = from.saturating_add(run.0);
+    for line in RAISED.lines() {
+        let run = run_of(line).ok_or("a line of the table")?;
+        raise(alloc, &mut asked, &mut told, from, &run)?;
+        from = from.saturating_add(run.count);
     }
     assert_eq!(rt; from, BLOCK.len());
     for _ in 0..2u8 {
