@@ -3,6 +3,7 @@ use Rattle.std.specs.Prelude.{◌≡◌, List, Ok}
 use Rattle.al_block.specs.declared.block.Block.{Block}
 use Rattle.al_eval.specs.State.{State, replay}
 
+-- the state at the origin, and the blocks since
 pub record Held : Type 0 where
   pub origin : State
   pub blocks : List Block

@@ -22,9 +22,11 @@ use Rattle.al_node.specs.Held.{Held}
 abbrev pub Tree : Type 0
 Tree = BTreeMap Key Stored
 
+-- the state that a ledger began with
 abbrev pub origin_of : Chain → Header → Tree → State
 origin_of chain header rows = record { chain = chain; header = header; rows = from_entries rows.entries; past = [] }
 
+-- the blocks that were accepted, in order
 abbrev pub blocks_of : List Accepted → List Block
 blocks_of accepted = map (λ a. a.block) accepted
 
@@ -33,12 +35,13 @@ abbrev pub Follows : State → List Accepted → State → Type 0
 Follows s [] last = s ≡ last
 Follows s (a ∷ more) last = (n : State) × (step s a.block ≡ Ok n) × (n.rows ≡ from_entries a.rows.entries) × Follows n more last
 
--- the rows and the header after the first n blocks
+-- the rows after the first n blocks
 abbrev pub rows_at : Tree → List Accepted → ℕ → Tree
 rows_at rows accepted zero = rows
 rows_at rows [] (suc n) = rows
 rows_at rows (a ∷ more) (suc n) = rows_at a.rows more n
 
+-- the header of the n-th block, or the first one
 abbrev pub header_at : Header → List Accepted → ℕ → Header
 header_at header accepted zero = header
 header_at header [] (suc n) = header

@@ -8,6 +8,7 @@ use Rattle.al_txn.specs.declared.body.Body.{Body}
 use Rattle.al_txn.specs.declared.body.Body.TheVariants as bodies
 use Rattle.al_block.specs.declared.block.Block.{Block}
 
+-- all bytes are zero
 abbrev pub is_zero : List ℕ → Bool
 is_zero bytes = list_all (λ b. nat_eq b 0) bytes
 
@@ -20,11 +21,13 @@ is_plain_body pool b = false
 abbrev pub is_plain_item : Address → Item → Bool
 is_plain_item pool i = is_plain_body pool i.txn.body && (is_zero i.txn.rekey.0 && (is_zero i.txn.lease && is_zero i.txn.group))
 
+-- the list has at most one member
 abbrev pub is_at_most_one : {A : Type 0} → List A → Bool
 is_at_most_one [] = true
 is_at_most_one (x ∷ []) = true
 is_at_most_one (x ∷ y ∷ more) = false
 
+-- the list has no member
 abbrev pub is_none : {A : Type 0} → List A → Bool
 is_none [] = true
 is_none (x ∷ more) = false

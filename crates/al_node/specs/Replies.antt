@@ -31,9 +31,11 @@ use Rattle.al_node.specs.Plain.{is_plain}
 
 -- ---- look-ups
 
+-- 404: the round is above the front
 abbrev pub too_new : ℕ → Answer
 too_new front = answers.Refused 404 errors.TooNew (record nothing { front = Some front })
 
+-- 404: there is no such account after the round
 abbrev pub no_row : ℕ → ℕ → Answer
 no_row front round = answers.Refused 404 errors.NoRow (record nothing { front = Some front; round = Some round })
 
@@ -75,6 +77,7 @@ undecodable faults.Memory = memory_answer
 
 -- ---- posted blocks
 
+-- 200: the block of this round stands in the chain
 abbrev pub taken : ℕ → ℕ → Answer
 taken front round = answers.Taken front round
 
@@ -94,17 +97,20 @@ wrong_prev front kept = answers.Refused 409 errors.WrongPrev (record nothing { f
 abbrev pub wrong_header : ℕ → Field → Answer
 wrong_header front field = answers.Refused 422 errors.Header (record nothing { front = Some front; field = Some field })
 
+-- 422: a broken rule with its values
 abbrev pub refused_by : ℕ → ℕ → Rule → Option Address → Answer
 refused_by front place rule who =
     answers.Refused 422 errors.Broken (record nothing { front = Some front; place = Some place; rule = Some rule.number; has = rule.has; needs = rule.needs; who = who })
 
--- 422: a broken rule with its values; rule 42 keeps whose balance it is, and does not show it
+-- the same by its number; rule 42 keeps whose balance it is, and does not show it
 abbrev pub broken_at : ℕ → ℕ → Rule → Answer
 broken_at front place rule = refused_by front place rule (if nat_eq rule.number 42 then None else rule.who)
 
+-- 501: it is not built yet
 abbrev pub not_built : Answer
 not_built = not_built_answer
 
+-- the rules that are answered so far: an amount above the balance, and a balance below the minimum
 abbrev pub is_shown : Rule → Bool
 is_shown rule = nat_eq rule.number 40 || nat_eq rule.number 42
 

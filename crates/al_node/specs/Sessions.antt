@@ -13,6 +13,7 @@ use Rattle.al_node.specs.Opening.{IsNoPlainGenesis}
 use Rattle.al_node.specs.declared.link.Ended.{Ended}
 use Rattle.al_node.specs.declared.link.Ended.TheVariants as ended
 
+-- the first byte is a dash
 abbrev pub begins_with_dash : List ℕ → Bool
 begins_with_dash [] = false
 begins_with_dash (b ∷ bs) = nat_eq b 45
@@ -24,13 +25,15 @@ session_file (command ∷ []) = None
 session_file (command ∷ file ∷ []) = if bytes_eq command (codes "session") && not (begins_with_dash file) then Some file else None
 session_file (command ∷ file ∷ other ∷ more) = None
 
--- 10 ends a line
+-- the line of status 2; 10 ends a line
 abbrev pub usage_line : List ℕ
 usage_line = codes "usage: al_node [--db FILE] COMMAND" ++ 10 ∷ []
 
+-- the line of status 3
 abbrev pub genesis_line : List ℕ
 genesis_line = codes "genesis: 0" ++ 10 ∷ []
 
+-- the line of status 4 names the file
 abbrev pub folder_line : List ℕ → List ℕ
 folder_line name = codes "folder: " ++ name ++ 10 ∷ []
 
@@ -70,6 +73,7 @@ pub record IsSilent (before after : Outside) : Type 0 where
 abbrev pub most_genesis : ℕ
 most_genesis = 5242880
 
+-- there are more bytes than the limit
 abbrev pub HasLonger : ℕ → Option (List ℕ) → Type 0
 HasLonger limit None = ⊥
 HasLonger limit (Some bytes) = limit < length bytes
@@ -119,5 +123,6 @@ abbrev pub RunsOf : Option (List ℕ) → Outside → Outside → ℕ → Type 0
 RunsOf None before after status = (status ≡ 2) × SaysAlone usage_line before after
 RunsOf (Some name) before after status = IsUnread name before after status ⊎ IsNoGenesis name before after status ⊎ IsShort before after status ⊎ IsServed name before after status
 
+-- what a run of the program is
 abbrev pub Runs : List (List ℕ) → Outside → Outside → ℕ → Type 0
 Runs words before after status = RunsOf (session_file words) before after status
