@@ -364,6 +364,7 @@ impl<V: RowView> Work<V> {
         ensures changes { V.tells ≡ true → IfOk result.0 (λ cs. AreChanges self.block self.now (map change_of cs)) }
         ensures ordered { IfOk result.0 (λ cs. IsStrictlySortedBy key_cmp (map (λ c. c.key) cs)) }
         ensures kept { IfOk result.0 (λ cs. All (λ c. IfSome c.row (IsKept c.key)) cs) }
+        ensures rows { V.rows result.1 ≡ self.block }
         ensures failures { V.failures result.1 ≡ self.failures }
         ensures lender { V.lender result.1 ≡ self.lender }
     {
