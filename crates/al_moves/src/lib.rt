@@ -11,3 +11,6 @@ pub use change::{Change, Changes};
 pub use laws::{moves_are_fair, rise_is_earned};
 pub use rule::{Rule, Stop};
 pub use work::Work;
+
+#[cfg(test)]
+mod tests;
