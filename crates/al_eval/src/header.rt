@@ -1,5 +1,5 @@
 //! The header of a block, against what is due after the block before.
-ghost use Rattle.std.specs.Prelude.{◌≡◌, ◌+◌, nat_eq, nat_le, ◌||◌, ◌&&◌, Option, length};
+ghost use Rattle.std.specs.Prelude.{◌≡◌, ◌+◌, nat_eq, nat_le, ◌||◌, ◌&&◌, None, Option, length};
 ghost use Rattle.al_eval.specs.Steps.{first_fault, header_checks, is_in_time, recalc_due, rewards_checks};
 
 use crate::Before;
@@ -8,7 +8,8 @@ use al_block::{Field, Header};
 /// The first header field that differs from what is due.
 #[tactic(auto, unfolding(crate::specs::Steps::header_checks))]
 pub fn header_fault(before: &Before, h: &Header) -> Option<Field>
-    ensures { result ≡ first_fault (header_checks before.now h.now) }
+    ensures first { result ≡ first_fault (header_checks before.now h.now) }
+    ensures round { result ≡ None → h.now.round ≡ before.now.header.round + 1 }
 {
     let last = &before.header;
     let special = &before.chain.special;

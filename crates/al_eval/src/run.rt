@@ -1,5 +1,5 @@
 //! The step of a block over a view.
-ghost use Rattle.std.specs.Prelude.{◌≡◌, ◌+◌, true, IfOk, IfSome, map, All, length};
+ghost use Rattle.std.specs.Prelude.{◌≡◌, ◌+◌, true, IfOk, IfSome, OnOk, map, All, length};
 ghost use Rattle.std.specs.List.Sorted.{IsStrictlySortedBy};
 ghost use Rattle.al_base.specs.Keys.{key_cmp};
 ghost use Rattle.al_rows.specs.Rows.{IsKept};
@@ -51,7 +51,8 @@ fn block_rows<V: RowView>(
 ) -> Result<(), EvalRefusal<V::Fault>>
     requires level { work.old.level ≡ block.now.header.level }
     requires special { work.old.special ≡ before.now.chain.special }
-    ensures { Runs V.tells (block_rows before.now past.now block.now work.old.now) work.old work.new result }
+    ensures step { Runs V.tells (block_rows before.now past.now block.now work.old.now) work.old work.new result }
+    ensures round { OnOk result (block.now.header.round ≡ before.now.header.round + 1) }
 {
     if let Some(field) = header_fault(before, &block.header) {
         return Err(EvalRefusal::Header { field });
@@ -85,11 +86,13 @@ fn eval_over<V: RowView>(
     answer: &mut Result<RoundDelta, EvalRefusal<V::Fault>>,
 ) -> V
     ensures lender { V.lender result ≡ V.lender view }
+    ensures same { V.tells ≡ true → V.rows result ≡ V.rows view }
     ensures step { V.tells ≡ true → Evals (block_rows before.now past.now block.now (V.rows view)) (V.rows view) answer.new }
     ensures cause { IsCounted answer.new (V.failures view) (V.failures result) }
     ensures ordered { IfOk answer.new (λ d. IsStrictlySortedBy key_cmp (map (λ c. c.key) d.changes)) }
     ensures kept { IfOk answer.new (λ d. All (λ c. IfSome c.row (IsKept c.key)) d.changes) }
     ensures round { IfOk answer.new (λ d. d.round ≡ block.now.header.round) }
+    ensures next { IfOk answer.new (λ d. d.round ≡ before.now.header.round + 1) }
 {
     let header = &block.header;
     let mut work = Work::new(
@@ -128,9 +131,11 @@ pub fn eval<V: RowView>(
 ) -> Result<RoundDelta, EvalRefusal<V::Fault>>
     ensures step { V.tells ≡ true → Evals (block_rows before.now tail.now block.now (V.rows view.old)) (V.rows view.old) result }
     ensures cause { IsCounted result (V.failures view.old) (V.failures view.new) }
+    ensures same { V.tells ≡ true → V.rows view.new ≡ V.rows view.old }
     ensures ordered { IfOk result (λ d. IsStrictlySortedBy key_cmp (map (λ c. c.key) d.changes)) }
     ensures kept { IfOk result (λ d. All (λ c. IfSome c.row (IsKept c.key)) d.changes) }
     ensures round { IfOk result (λ d. d.round ≡ block.now.header.round) }
+    ensures next { IfOk result (λ d. d.round ≡ before.now.header.round + 1) }
 {
     let mut answer = Err(EvalRefusal::Memory);
     let _lent = eval_over(alloc, Lent { view }, before, tail, block, &mut answer);

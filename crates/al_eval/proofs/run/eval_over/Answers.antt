@@ -12,14 +12,17 @@ pub returns-clause-step : goal.returns-clause-step
 returns-clause-step g c = λ t.
     let new = c.block_rows-run.new.work in
     let old : c.new-work.result.now ≡ g.V.RowView.rows c.args.view = ap (λ (w : Worked). w.now) c.new-work.ensures in
-    let block : new.block ≡ g.V.RowView.rows c.args.view = c.block_rows-run.ensures.fixed.block t ∙ ap (λ (w : Worked). w.block) c.new-work.ensures in
+    let block : new.block ≡ g.V.RowView.rows c.args.view = c.block_rows-run.ensures.step.fixed.block t ∙ ap (λ (w : Worked). w.block) c.new-work.ensures in
     elim c.match-run.branch [
       | in-Err w ↦ rw w.t-23-is (evals_err (Unit {0}) _ (g.V.RowView.rows c.args.view) new.now w.in-Err.refusal
-          (subst (λ (m : RowMap). Gives {T = Unit {0}} (block_rows c.args.before.now c.args.past.now c.args.block.now m) (Err w.in-Err.refusal) new.now) old (w.in-Err.ensures.gives t)))
+          (subst (λ (m : RowMap). Gives {T = Unit {0}} (block_rows c.args.before.now c.args.past.now c.args.block.now m) (Err w.in-Err.refusal) new.now) old (w.in-Err.ensures.step.gives t)))
       | in-Ok+in-Ok-changes w ↦ rw w.t-23-is (
         new.now,
-        subst (λ (m : RowMap). block_rows c.args.before.now c.args.past.now c.args.block.now m ≡ Ok new.now) old (w.in-Ok.ensures.gives t),
+        subst (λ (m : RowMap). block_rows c.args.before.now c.args.past.now c.args.block.now m ≡ Ok new.now) old (w.in-Ok.ensures.step.gives t),
         subst (λ (m : RowMap). AreChanges m new.now (map change_of w.in-Ok-changes.changes)) block (IfOk-at_ok (λ cs. AreChanges new.block new.now (map change_of cs)) w.in-Ok-changes.is (c.end-changes.ensures.changes t)),
       )
       | in-Ok+in-Err-changes w ↦ rw w.t-23-is tt
     ]
+
+pub returns-clause-same : goal.returns-clause-same
+returns-clause-same g c = λ t. c.end-changes.ensures.rows ∙ c.block_rows-run.ensures.step.fixed.block t ∙ ap (λ (w : Worked). w.block) c.new-work.ensures
