@@ -25,3 +25,5 @@ pub use tail::{Entry, Tail};
 
 #[cfg(test)]
 mod genesis_tests;
+#[cfg(test)]
+mod step_tests;
