@@ -1,11 +1,14 @@
 -- What stands under the names of a written record.
-use Rattle.std.proofs.Common.{◌≡◌, ◌==◌, ℕ, true, false, List, [], ◌∷◌, Option, Some, None, Result, Ok, Err, refl, sym, ap, ◌∙◌, eq-eqb}
+use Rattle.std.proofs.Common.{◌≡◌, ◌==◌, ℕ, true, false, List, [], ◌∷◌, Option, Some, None, ◌++◌, OnOk, Result, Ok, Err, refl, sym, ap, subst, ◌∙◌, eq-eqb}
 use Rattle.std.specs.Str.{bytes_eq}
 use Rattle.al_msgpack.specs.declared.val.Val.{Val}
 use Rattle.al_msgpack.specs.declared.val.Val.TheVariants as values
 use Rattle.al_msgpack.specs.declared.val.Val.TheViews as views
 use Rattle.al_msgpack.specs.declared.val.Entry.{Entry}
+use Rattle.al_msgpack.specs.Places.{IsSpelling}
 use Rattle.al_msgpack.specs.Rising.{rises}
+use Rattle.al_msgpack.specs.Spelled.{spelled}
+use Rattle.al_msgpack.proofs.Canonical.{spells_only}
 use Rattle.al_record.specs.declared.fault.Fault.{Fault}
 use Rattle.al_record.specs.Columns.{FieldOf, rule, rules_of, heads, put, is_empty, value_at, with_entry, entries}
 use Rattle.al_record.specs.Kinds.{text_kind, number_kind}
@@ -71,3 +74,7 @@ unfolding number_in
 numbers_apart m n t e =
     let same : m ≡ n = ap number_in e in
     false_true (sym t ∙ eq-eqb m n same)
+
+-- the bytes that a value was read from are its spelling
+pub back_from : {E : Type 0} (r : Result (Unit {0}) E) (input : List ℕ) (v : Val) (new old : List ℕ) → IsSpelling v input → OnOk r (new ≡ old ++ spelled v) → OnOk r (new ≡ old ++ input)
+back_from r input v new old m h = subst (λ (bytes : List ℕ). OnOk r (new ≡ old ++ bytes)) (spells_only 16 v input m) h

@@ -1,6 +1,7 @@
 //! The spellings of transactions, and the ids of transactions and groups.
-ghost use Rattle.std.specs.Prelude.{◌≡◌, ◌++◌, IfOk, OnOk};
+ghost use Rattle.std.specs.Prelude.{◌≡◌, ◌++◌, ℕ, List, IfOk, OnErr, OnOk};
 ghost use Rattle.al_msgpack.specs.declared.val.Val.TheVariants as values;
+ghost use Rattle.al_msgpack.specs.Places.{IsSpelling};
 ghost use Rattle.al_msgpack.specs.Spelled.{spelled};
 ghost use Rattle.al_digest.specs.Digests.{digest_of};
 ghost use Rattle.al_txn.specs.Txn.{txn};
@@ -14,19 +15,38 @@ use al_msgpack::{Entries, Val, Vals, write};
 use al_record::put_list;
 use std::alloc::{AllocError, Global};
 
-/// Appends the spelling of a transaction's record.
+/// Appends the spelling of a transaction's record: the very bytes that it was read from. Nothing is
+/// appended where memory is short.
 pub fn encode_txn(alloc: Global, t: &Txn, out: &mut Vec<u8>) -> Result<(), AllocError>
-    ensures { OnOk result (out.new.items ≡ out.old.items ++ spelled (values.Map (txn.write t.now))) }
+    ensures bytes { OnOk result (out.new.items ≡ out.old.items ++ spelled (values.Map (txn.write t.now))) }
+    ensures back { (input : List ℕ) → IsSpelling (values.Map (txn.write t.now)) input → OnOk result (out.new.items ≡ out.old.items ++ input) }
+    ensures err { OnErr result (out.new.items ≡ out.old.items) }
 {
-    write(&Val::Map(txn_entries(alloc, t)?), out)
+    append(alloc, t, out)
+}
+
+fn append(alloc: Global, t: &Txn, out: &mut Vec<u8>) -> Result<(), AllocError>
+    ensures bytes { OnOk result (out.new.items ≡ out.old.items ++ spelled (values.Map (txn.write t.now))) }
+    ensures err { OnErr result (out.new.items ≡ out.old.items) }
+{
+    let bytes = spelling(alloc, &Val::Map(txn_entries(alloc, t)?))?;
+    out.extend_from_slice(&bytes)
+}
+
+// The spelling of a value.
+fn spelling(alloc: Global, v: &Val) -> Result<Vec<u8>, AllocError>
+    ensures { IfOk result (λ bytes. bytes.items ≡ spelled v.now) }
+{
+    let mut bytes = Vec::new(alloc);
+    write(v, &mut bytes)?;
+    Ok(bytes)
 }
 
 /// The digest of a value's spelling.
 pub fn digest_val(alloc: Global, prefix: Prefix, v: &Val) -> Result<Hash, AllocError>
     ensures { IfOk result (λ h. h ≡ digest_of prefix (spelled v.now)) }
 {
-    let mut bytes = Vec::new(alloc);
-    write(v, &mut bytes)?;
+    let bytes = spelling(alloc, v)?;
     Ok(digest(prefix, bytes.as_slice()))
 }
 
