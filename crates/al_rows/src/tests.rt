@@ -1,4 +1,10 @@
-use crate::AccountRow;
+use crate::{
+    AccountRow, AppParams, AppRow, AssetRow, BoxRow, Holding, Local, MapView, Row, RowView, Stored,
+    StoredView, copy_row,
+};
+use al_base::{Address, AssetParams, Bytes, Key};
+use std::alloc::{AllocError, Global};
+use std::collections::BTreeMap;
 use std::test::*;
 
 // An account alone, one with a box of 10 and 90 bytes, and one with each other thing once.
@@ -22,4 +28,100 @@ fn minimum_balances(rt: HostRuntime) {
         ..alone
     };
     assert_eq!(rt; rich.min_balance(), 578_500);
+}
+
+fn params(alloc: Global) -> Result<AssetParams, AllocError> {
+    Ok(AssetParams {
+        total: 7,
+        decimals: 2,
+        default_frozen: true,
+        unit: Bytes::of(alloc, b"u")?,
+        name: Bytes::of(alloc, b"n")?,
+        url: Bytes::of(alloc, b"")?,
+        meta: [1; 32],
+        manager: Address([2; 32]),
+        reserve: Address([3; 32]),
+        freeze: Address([4; 32]),
+        clawback: Address([5; 32]),
+    })
+}
+
+fn app(alloc: Global) -> Result<AppRow, AllocError> {
+    Ok(AppRow {
+        params: Some(AppParams {
+            global_uints: 1,
+            global_slices: 2,
+            local_uints: 3,
+            local_slices: 4,
+            extra_pages: 3,
+            state: Bytes::of(alloc, b"g")?,
+        }),
+        local: Some(Local {
+            uints: 5,
+            slices: 6,
+            state: Bytes::of(alloc, b"l")?,
+        }),
+    })
+}
+
+fn is_copied(alloc: Global, row: Row) -> Result<bool, AllocError> {
+    let stored = Stored { row, changed: 3 };
+    let copy = stored.copy(alloc)?;
+    let row = Some(copy.row);
+    Ok(copy_row(alloc, &row)? == Some(stored.row))
+}
+
+// A row of each kind, with all of its parts.
+#[test]
+fn copies(rt: HostRuntime) -> Result<(), Fail> {
+    let alloc = rt.alloc();
+    assert!(rt; is_copied(alloc, Row::Account(AccountRow::none()))?);
+    let asset = AssetRow {
+        params: Some(params(alloc)?),
+        holding: Some(Holding {
+            amount: 1,
+            frozen: true,
+        }),
+    };
+    assert!(rt; is_copied(alloc, Row::Asset(asset))?);
+    assert!(rt; is_copied(alloc, Row::App(app(alloc)?))?);
+    let value = Bytes::of(alloc, b"v")?;
+    assert!(rt; is_copied(alloc, Row::Box(BoxRow { value }))?);
+    Ok(())
+}
+
+// Whether a row with params is shown under the key of an asset, its creator by its id, and nothing
+// else.
+fn shows<V: RowView>(view: &mut V) -> bool {
+    let creator = Address([1; 32]);
+    let row = view.row(&Key::Resource(creator, 5)).ok();
+    let is_shown = row.is_some_and(|row| row.is_some_and(|row| row.has_params()));
+    let none = view.row(&Key::Account(creator)).ok();
+    is_shown
+        && none.is_some_and(|none| none.is_none())
+        && view.creator(5).ok() == Some(Some(creator))
+        && view.creator(6).ok() == Some(None)
+}
+
+#[test]
+fn views(rt: HostRuntime) -> Result<(), Fail> {
+    let alloc = rt.alloc();
+    let key = Key::Resource(Address([1; 32]), 5);
+    let row = Row::Asset(AssetRow {
+        params: Some(params(alloc)?),
+        holding: None,
+    });
+    let mut stored = BTreeMap::new(alloc);
+    stored.insert(
+        key,
+        Stored {
+            row: row.copy(alloc)?,
+            changed: 0,
+        },
+    )?;
+    assert!(rt; shows(&mut StoredView::new(alloc, &stored)));
+    let mut rows = BTreeMap::new(alloc);
+    rows.insert(key, row)?;
+    assert!(rt; shows(&mut MapView::new(alloc, rows)));
+    Ok(())
 }
