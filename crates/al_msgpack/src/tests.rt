@@ -1,3 +1,5 @@
+ghost use Rattle.std.specs.Prelude.{◌<◌, ◌^◌, length};
+
 use super::*;
 use std::alloc::{AllocError, Global};
 use std::test::*;
@@ -43,6 +45,17 @@ fn faults_and_places(rt: HostRuntime) -> Result<(), Fail> {
     Ok(())
 }
 
+/// The spelling of a value that was read.
+fn spelled_again(alloc: Global, input: &[u8]) -> Result<Vec<u8>, Fail>
+    requires { length input.now < 2 ^ 31 }
+{
+    let value = decode(alloc, input)?;
+    format_laws();
+    let mut out = Vec::new(alloc);
+    encode(&value, &mut out)?;
+    Ok(out)
+}
+
 #[test]
 fn read_and_written_back(rt: HostRuntime) -> Result<(), Fail> {
     let deepest = nested(rt.alloc(), 16)?;
@@ -58,6 +71,7 @@ fn read_and_written_back(rt: HostRuntime) -> Result<(), Fail> {
         let mut out = Vec::new(rt.alloc());
         write(&value, &mut out)?;
         assert_eq!(rt; out.as_slice(), input);
+        assert_eq!(rt; spelled_again(rt.alloc(), input)?.as_slice(), input);
     }
     Ok(())
 }
