@@ -1,7 +1,7 @@
 use crate::{
-    Address, BoxName, Bytes, DirFolder, Failed, Files, Folder, FolderRefusal, Key, MemFolder,
-    MemSink, MemSource, NamedFile, QuietFolder, QuietSink, QuietSource, ReadSource, Sink, Source,
-    WriteSink,
+    Address, Addresses, BoxName, Bytes, DirFolder, Failed, Files, Folder, FolderRefusal, Key,
+    MemFolder, MemSink, MemSource, NamedFile, QuietFolder, QuietSink, QuietSource, ReadSource,
+    Sink, Source, WriteSink,
 };
 use std::alloc::{AllocError, Global};
 use std::process::Abort;
@@ -37,6 +37,18 @@ fn lengths_of_keys(rt: HostRuntime) {
     for (kind, len) in others {
         assert!(rt; !is_key(kind, len), "{kind} of {len}");
     }
+}
+
+#[test]
+fn lists(rt: HostRuntime) -> Result<(), Fail> {
+    let alloc = rt.alloc();
+    let mut list = Addresses::new(alloc);
+    list.push(Address([9; 32]))?;
+    let copy = list.copy(alloc)?;
+    assert_eq!(rt; copy.as_slice(), [Address([9; 32])].as_slice());
+    let bytes = Bytes::of(alloc, b"ab")?;
+    assert_eq!(rt; bytes.copy(alloc)?.as_slice(), b"ab".as_slice());
+    Ok(())
 }
 
 // Whether three calls answer these numbers, or that they fail.
@@ -112,6 +124,8 @@ fn folders(rt: HostRuntime) -> Result<(), Fail> {
     for (name, limit, want) in reads {
         assert_eq!(rt; file_len(&mut folder, alloc, name, limit), want);
     }
+    assert_eq!(rt; folder.write("b", b"w"), Ok(()));
+    assert_eq!(rt; folder.file("b"), Some(b"w".as_slice()));
     assert_eq!(rt;
         DirFolder::new(rt).read(alloc, "there is no such file", 2),
         Ok(None)
@@ -127,5 +141,6 @@ fn writes(rt: HostRuntime) -> Result<(), Fail> {
     assert_eq!(rt; folder.write("a", b""), Ok(()));
     assert_eq!(rt; folder.file("b"), Some(b"w".as_slice()));
     assert_eq!(rt; folder.file("a"), Some(b"".as_slice()));
+    assert_eq!(rt; file_len(&mut folder, alloc, "b", 1), Ok(Some(1)));
     Ok(())
 }
