@@ -1,6 +1,9 @@
 //! Sources, sinks and a folder over the system. They tell nothing, and count each error.
-ghost use Rattle.std.specs.Prelude.{◌≡◌};
-ghost use Rattle.al_base.specs.Plans.{counted};
+ghost use Rattle.std.specs.Prelude.{◌≡◌, ◌≤◌, length, IfOk, OnOk, None, is_err};
+ghost use Rattle.std.specs.Io.KnownBytes.{Appends, ReadConsumes};
+ghost use Rattle.al_base.specs.Causes.{HasCause, Puts, Takes};
+ghost use Rattle.al_base.specs.Folders.{HasReadCause, IsWithinLimit, Reads, Writes, is_failed};
+ghost use Rattle.al_base.specs.Plans.{counted_if};
 
 use crate::{Bytes, Failed, Folder, FolderRefusal, Sink, Source};
 use std::alloc::Global;
@@ -18,7 +21,8 @@ pub struct ReadSource<R> {
 impl<R> ReadSource<R> {
     /// A source of what the reader gives.
     pub fn new(reader: R) -> ReadSource<R>
-        ensures { result.faults ≡ 0 }
+        ensures reader { result.reader ≡ reader }
+        ensures faults { result.faults ≡ 0 }
     {
         ReadSource { reader, faults: 0 }
     }
@@ -31,7 +35,13 @@ impl<R: Read> Source for ReadSource<R> {
 
     ghost faults = { λ s. s.faults };
 
-    fn take(&mut self, buf: &mut [u8]) -> Result<usize, Failed> {
+    fn take(&mut self, buf: &mut [u8]) -> Result<usize, Failed>
+        ensures bound { IfOk result (λ n. n ≤ length buf.new) }
+        ensures bytes { Takes None None result buf.new }
+        ensures cause { HasCause self.old.faults self.new.faults result }
+        ensures read { ReadConsumes (R.remaining self.old.reader) (R.remaining self.new.reader) result buf.new }
+        ensures faults { self.new.faults ≡ counted_if (is_err result) self.old.faults }
+    {
         let Ok(n) = self.reader.read(buf) else {
             self.faults = self.faults.saturating_add(1);
             return Err(Failed);
@@ -50,7 +60,8 @@ pub struct WriteSink<W> {
 impl<W> WriteSink<W> {
     /// A sink that writes to the writer.
     pub fn new(writer: W) -> WriteSink<W>
-        ensures { result.faults ≡ 0 }
+        ensures writer { result.writer ≡ writer }
+        ensures faults { result.faults ≡ 0 }
     {
         WriteSink { writer, faults: 0 }
     }
@@ -64,7 +75,12 @@ impl<W: Write> Sink for WriteSink<W> {
     ghost faults = { λ s. s.faults };
 
     // `write_all` makes an error of a write that takes nothing.
-    fn put(&mut self, bytes: &[u8]) -> Result<(), Failed> {
+    fn put(&mut self, bytes: &[u8]) -> Result<(), Failed>
+        ensures bytes { Puts None None result bytes.now }
+        ensures cause { HasCause self.old.faults self.new.faults result }
+        ensures written { OnOk result (Appends (W.contents self.old.writer) (W.contents self.new.writer) bytes.now) }
+        ensures faults { self.new.faults ≡ counted_if (is_err result) self.old.faults }
+    {
         if self.writer.write_all(bytes).is_err() || self.writer.flush().is_err() {
             self.faults = self.faults.saturating_add(1);
             return Err(Failed);
@@ -101,7 +117,12 @@ impl<R: Files> Folder for DirFolder<R> {
         alloc: Global,
         name: &str,
         limit: usize,
-    ) -> Result<Option<Bytes>, FolderRefusal> {
+    ) -> Result<Option<Bytes>, FolderRefusal>
+        ensures within { IsWithinLimit limit result }
+        ensures files { Reads None None name.now limit result }
+        ensures cause { HasReadCause self.old.faults self.new.faults result }
+        ensures faults { self.new.faults ≡ counted_if (is_failed result) self.old.faults }
+    {
         match read_front(&self.rt, alloc, name, limit) {
             Ok(bytes) if bytes.len() > limit => Err(FolderRefusal::TooLong { limit }),
             Ok(bytes) => Ok(Some(bytes)),
@@ -114,7 +135,11 @@ impl<R: Files> Folder for DirFolder<R> {
         }
     }
 
-    fn write(&mut self, name: &str, bytes: &[u8]) -> Result<(), Failed> {
+    fn write(&mut self, name: &str, bytes: &[u8]) -> Result<(), Failed>
+        ensures files { Writes None None name.now bytes.now result }
+        ensures cause { HasCause self.old.faults self.new.faults result }
+        ensures faults { self.new.faults ≡ counted_if (is_err result) self.old.faults }
+    {
         if fs::write(&self.rt, name, bytes).is_err() {
             self.faults = self.faults.saturating_add(1);
             return Err(Failed);
