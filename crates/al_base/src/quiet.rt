@@ -2,7 +2,7 @@
 ghost use Rattle.std.specs.Prelude.{◌≡◌, ◌++◌, ◌≤◌, ◌<◌, [], length, min, take, drop, Some, IfOk, IsOk, IsOkAnd, IsTrue, IsFalse, None};
 ghost use Rattle.std.specs.Option.{option_copied};
 ghost use Rattle.al_base.specs.Causes.{HasCause, Puts, Takes};
-ghost use Rattle.al_base.specs.Folders.{file_of, Answers, IsWithinLimit, HasReadCause, Reads, Replaces, Writes, is_failed};
+ghost use Rattle.al_base.specs.Folders.{file_of, Answers, IsWithinLimit, HasReadCause, KeepsOthers, Reads, Replaces, Writes, is_failed};
 
 use crate::folder::{file_in, put_file, read_file};
 use crate::{Bytes, Failed, Files, Folder, FolderRefusal, Sink, Source};
@@ -178,6 +178,7 @@ impl Folder for QuietFolder {
         ensures sure { IsOk result }
         ensures whole { IsTrue self.new.is_whole → IsTrue self.old.is_whole × Replaces (file_of self.old.files) (file_of self.new.files) name.now bytes.now }
         ensures lost { IsFalse self.new.is_whole → IsTrue self.old.is_whole → self.new.files ≡ self.old.files }
+        ensures others { KeepsOthers (file_of self.old.files) (file_of self.new.files) name.now }
     {
         let put = put_file(&mut self.files, self.alloc, name.as_bytes(), bytes);
         self.is_whole = self.is_whole && put.is_ok();
