@@ -1,5 +1,5 @@
 use super::*;
-use al_base::Bytes;
+use al_base::{Address, Bytes};
 use al_msgpack::{Val, decode, write};
 use std::test::*;
 
@@ -67,5 +67,14 @@ fn written(rt: HostRuntime) -> Result<(), Fail> {
     let mut out = Vec::new(rt.alloc());
     write(&Val::Map(entries), &mut out)?;
     assert_eq!(rt; out.as_slice(), b"\x82\xa1c\xc3\xa1t\xa1x".as_slice());
+    Ok(())
+}
+
+#[test]
+fn addresses_read_back(rt: HostRuntime) -> Result<(), Fail> {
+    let who = [Address([1; 32])];
+    let entries = listed(rt.alloc(), &TABLE[3..4], &[Content::Addresses(&who)])?;
+    let read = addresses(rt.alloc(), entries.as_slice(), "d")?;
+    assert_eq!(rt; read.as_slice(), who.as_slice());
     Ok(())
 }
