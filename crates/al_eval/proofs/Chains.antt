@@ -1,5 +1,5 @@
 -- What a block's changes lead to, and that no block makes or loses money.
-use Rattle.std.proofs.Common.{◌≡◌, ◌≢◌, refl, sym, ap, ◌∙◌, subst, ℕ, ◌+◌, ◌≤◌, List, [], ◌∷◌, ◌++◌, Result, Ok, Err, Option, Some, None, Bool, true, false, if◌then◌else◌, nat_lt, ◌||◌, option_map, eqb-true, arith, IfSome, map}
+use Rattle.std.proofs.Common.{◌≡◌, ◌≢◌, refl, sym, ap, ◌∙◌, subst, ℕ, ◌+◌, ◌≤◌, List, [], ◌∷◌, ◌++◌, Result, Ok, Err, Option, Some, None, Bool, true, false, if◌then◌else◌, nat_lt, ◌||◌, option_map, eqb-true, arith, IfSome, map, length, take, replicate, ◌*◌, zero, suc}
 use Rattle.std.specs.Option.{option_or}
 use Rattle.std.specs.List.{AllByRecursion}
 use Rattle.std.specs.FinMap.{FinMap, get, same_map}
@@ -7,6 +7,9 @@ use Rattle.al_base.specs.Keys.{key_cmp}
 use Rattle.al_block.specs.declared.header.Header.{Header}
 use Rattle.al_block.specs.declared.header.Field.{Field}
 use Rattle.al_block.specs.declared.block.Block.{Block}
+use Rattle.al_block.specs.Hashes.{group_size}
+use Rattle.al_txn.specs.Ids.{group_id_of}
+use Rattle.al_rows.specs.Rows.{same_bytes}
 use Rattle.al_rewards.specs.Pending.{max_balance}
 use Rattle.al_rows.specs.declared.row.Row.{Row}
 use Rattle.al_rows.specs.declared.stored.Stored.{Stored}
@@ -29,7 +32,7 @@ use Rattle.al_moves.proofs.Monies.{moves_are_fair, fair_then}
 use Rattle.al_eval.specs.declared.before.Before.{Before}
 use Rattle.al_eval.specs.declared.tail.Entry.{Entry}
 use Rattle.al_eval.specs.Past.{entry_of, has_id}
-use Rattle.al_eval.specs.Steps.{Refusal, broken, header, first_fault, header_checks, rewards_checks, payset_fault, counter_fault, unless_fault, held_until, item_fault, done_by, applied, transacted, at_place, all_items, block_rows}
+use Rattle.al_eval.specs.Steps.{Refusal, broken, header, first_fault, header_checks, rewards_checks, payset_fault, counter_fault, unless_fault, unless_broken, first_at, size_fault, form_rule, forms_fault, group_id_fault, pooled, pool_fault, group_fault, entered, left_after, held_until, item_fault, done_by, applied, transacted, at_place, all_items, block_rows}
 use Rattle.al_eval.specs.State.{State, before_of, after, stamp, stamped, step, ChangesLead, StepIsFair}
 
 -- ---- the changes lead to the new rows
@@ -104,14 +107,51 @@ if_other false r o h g = g
 abbrev number_not : Rule → Type 0
 number_not r = r.number ≢ 41
 
-item_other : (c : Chain) (round : ℕ) (past seen : List Entry) (i : Item) → IsOther (item_fault c round past seen i)
+item_other : (round : ℕ) (past seen : List Entry) (i : Item) → IsOther (item_fault round past seen i)
 unfolding item_fault
-item_other c round past seen i =
-    either number_not _ _ (plain_other (form_fault i c) (either (λ n. n ≤ 40) _ _ (few_common i.txn c) (few_body i.txn)))
-    (either number_not _ _ (if_other (nat_lt i.txn.fee 1000) _ None (other_plain 36 (few 36 4 refl)) tt)
-    (either number_not _ _ (if_other (nat_lt round i.txn.first) _ _ (other_plain 32 (few 32 8 refl)) (if_other (nat_lt i.txn.last round) _ None (other_plain 33 (few 33 7 refl)) tt))
+item_other round past seen i =
+    either number_not _ _ (if_other (nat_lt round i.txn.first) _ _ (other_plain 32 (few 32 8 refl)) (if_other (nat_lt i.txn.last round) _ None (other_plain 33 (few 33 7 refl)) tt))
     (either number_not _ _ (if_other (has_id round (entry_of i.txn).id past || has_id round (entry_of i.txn).id seen) _ None (other_plain 30 (few 30 10 refl)) tt)
-    (mapped_other (held_until round past seen (entry_of i.txn)) _ (λ n. other_plain 31 (few 31 9 refl))))))
+    (mapped_other (held_until round past seen (entry_of i.txn)) _ (λ n. other_plain 31 (few 31 9 refl))))
+
+-- the same of a rule with its place
+abbrev IsOtherAt : Option (ℕ × Rule) → Type 0
+IsOtherAt o = IfSome o (λ f. f.1.number ≢ 41)
+
+first_other : (place : ℕ) (o : Option Rule) (rest : Option (ℕ × Rule)) → IsOther o → IsOtherAt rest → IsOtherAt (first_at place o rest)
+first_other place None rest h g = g
+first_other place (Some r) rest h g = h
+
+form_other : (c : Chain) (i : Item) → IsOther (form_rule i c)
+form_other c i = plain_other (form_fault i c) (either (λ n. n ≤ 40) _ _ (few_common i.txn c) (few_body i.txn))
+
+forms_other : (c : Chain) (place : ℕ) (is : List Item) → IsOtherAt (forms_fault c place is)
+forms_other c place [] = tt
+forms_other c place (i ∷ is) = first_other place (form_rule i c) (forms_fault c (place + 1) is) (form_other c i) (forms_other c (place + 1) is)
+
+if_other_last : (b : Bool) (o : Option Rule) (r : Rule) → IsOther o → r.number ≢ 41 → IsOther (if b then o else Some r)
+if_other_last true o r h g = h
+if_other_last false o r h g = g
+
+when_other : (b : Bool) (o p : Option Rule) → IsOther o → IsOther p → IsOther (if b then o else p)
+when_other true o p h g = h
+when_other false o p h g = g
+
+id_other : (is : List Item) → IsOther (group_id_fault is)
+id_other [] = tt
+id_other (i ∷ is) = when_other (same_bytes i.txn.group (replicate 32 0)) None _ tt (if_other_last (same_bytes i.txn.group (group_id_of (i ∷ is))) None _ tt (other_plain 35 (few 35 5 refl)))
+
+group_other : (c : Chain) (place : ℕ) (is : List Item) → IsOtherAt (group_fault c place is)
+unfolding group_fault
+group_other c place is =
+    first_other place (size_fault is) _ (if_other (nat_lt 16 (length is)) _ None (other_plain 34 (few 34 6 refl)) tt)
+    (either (λ (f : ℕ × Rule). f.1.number ≢ 41) (forms_fault c place is) _ (forms_other c place is)
+    (first_other place (group_id_fault is) _ (id_other is)
+    (first_other place (pool_fault is) None (if_other (nat_lt (pooled is) (1000 * length is)) _ None (other_plain 36 (few 36 4 refl)) tt) tt)))
+
+entered_other : (c : Chain) (place left : ℕ) (is : List Item) → IsOtherAt (entered c place left is)
+entered_other c place zero is = group_other c place (take (group_size is) is)
+entered_other c place (suc left) is = tt
 
 -- ---- transactions
 
@@ -138,7 +178,7 @@ refused_other level m (Some r) h = λ _. h
 transacted_is : (c : Chain) (round level : ℕ) (past seen : List Entry) (i : Item) (m : RowMap) → IsFair level m (transacted c round level past seen i m)
 unfolding transacted
 transacted_is c round level past seen i m =
-    fair_then level m (unless_refused (item_fault c round past seen i) m) (λ n. applied c level i.txn n) (refused_other level m (item_fault c round past seen i) (item_other c round past seen i)) (λ n _. applied_is c level i.txn n)
+    fair_then level m (unless_refused (item_fault round past seen i) m) (λ n. applied c level i.txn n) (refused_other level m (item_fault round past seen i) (item_other round past seen i)) (λ n _. applied_is c level i.txn n)
 
 -- ---- blocks
 
@@ -165,13 +205,19 @@ then_at level m (Ok n) f h g = fair_at level m n h (f n) (g n refl)
 then_at level m (Err (broken p r)) f h g = h
 then_at level m (Err (header e)) f h g = tt
 
-items_are : (c : Chain) (round level : ℕ) (past : List Entry) (place : ℕ) (seen : List Entry) (is : List Item) (m : RowMap) → IsFairAt level m (all_items c round level past place seen is m)
+broken_is : (level : ℕ) (m : RowMap) (o : Option (ℕ × Rule)) → IsOtherAt o → IsFairAt level m (unless_broken o m)
 unfolding IsFairAt
-items_are c round level past place seen [] m = refl
-items_are c round level past place seen (i ∷ is) m =
-    then_at level m (at_place place (transacted c round level past seen i m)) (λ n. all_items c round level past (place + 1) (seen ++ entry_of i.txn ∷ []) is n)
-    (placed level place m (transacted c round level past seen i m) (transacted_is c round level past seen i m))
-    (λ n _. items_are c round level past (place + 1) (seen ++ entry_of i.txn ∷ []) is n)
+broken_is level m None h = refl
+broken_is level m (Some f) h = λ _. h
+
+items_are : (c : Chain) (round level : ℕ) (past : List Entry) (place : ℕ) (seen : List Entry) (left : ℕ) (is : List Item) (m : RowMap) → IsFairAt level m (all_items c round level past place seen left is m)
+unfolding IsFairAt
+items_are c round level past place seen left [] m = refl
+items_are c round level past place seen left (i ∷ is) m =
+    then_at level m (unless_broken (entered c place left (i ∷ is)) m) _ (broken_is level m (entered c place left (i ∷ is)) (entered_other c place left (i ∷ is)))
+    (λ k _. then_at level k (at_place place (transacted c round level past seen i k)) (λ n. all_items c round level past (place + 1) (seen ++ entry_of i.txn ∷ []) (left_after left (i ∷ is)) is n)
+    (placed level place k (transacted c round level past seen i k) (transacted_is c round level past seen i k))
+    (λ n _. items_are c round level past (place + 1) (seen ++ entry_of i.txn ∷ []) (left_after left (i ∷ is)) is n))
 
 unless_is : (level : ℕ) (o : Option Field) (m : RowMap) → IsFairAt level m (unless_fault o m)
 unfolding IsFairAt
@@ -184,7 +230,7 @@ block_is s past b m =
     let level = b.header.level in
     then_at level m (unless_fault (first_fault (header_checks s b.header)) m) _ (unless_is level (first_fault (header_checks s b.header)) m)
     (λ n _. then_at level n (unless_fault (payset_fault b) n) _ (unless_is level (payset_fault b) n)
-    (λ k _. then_at level k (all_items s.chain b.header.round level past 0 [] b.items k) _ (items_are s.chain b.header.round level past 0 [] b.items k)
+    (λ k _. then_at level k (all_items s.chain b.header.round level past 0 [] 0 b.items k) _ (items_are s.chain b.header.round level past 0 [] 0 b.items k)
     (λ j _. unless_is level (counter_fault s b) j)))
 
 -- ---- the level of a block that passes its header

@@ -1,5 +1,5 @@
 -- The step of a block over rows, by the Algorand ledger specification, with the first refusal.
-use Rattle.std.specs.Prelude.{◌≡◌, ℕ, ◌+◌, List, [], ◌∷◌, ◌++◌, map, length, Bool, true, nat_eq, nat_lt, nat_le, ◌&&◌, ◌||◌, if◌then◌else◌, replicate, ⊤}
+use Rattle.std.specs.Prelude.{◌≡◌, ℕ, ◌+◌, ◌-◌, ◌*◌, zero, suc, List, [], ◌∷◌, ◌++◌, map, length, take, sum_by, Bool, true, nat_eq, nat_lt, nat_le, ◌&&◌, ◌||◌, if◌then◌else◌, replicate, ⊤}
 use Rattle.std.specs.declared.option.Option.{Option}
 use Rattle.std.specs.declared.option.Option.TheVariants.{None, Some}
 use Rattle.std.specs.declared.result.Result.{Result}
@@ -10,7 +10,7 @@ use Rattle.al_block.specs.declared.header.Header.{Header}
 use Rattle.al_block.specs.declared.header.Field.{Field}
 use Rattle.al_block.specs.declared.header.Field.TheVariants as field
 use Rattle.al_block.specs.declared.block.Block.{Block}
-use Rattle.al_block.specs.Hashes.{payset_hash_of}
+use Rattle.al_block.specs.Hashes.{payset_hash_of, group_size}
 use Rattle.al_rows.specs.Rows.{RowMap, same_bytes}
 use Rattle.al_txn.specs.declared.body.Body.{Body}
 use Rattle.al_txn.specs.declared.body.Body.TheVariants as body
@@ -18,6 +18,7 @@ use Rattle.al_txn.specs.declared.chain.Chain.{Chain}
 use Rattle.al_txn.specs.declared.txn.Txn.{Txn}
 use Rattle.al_txn.specs.declared.txn.Item.{Item}
 use Rattle.al_txn.specs.Form.{form_fault}
+use Rattle.al_txn.specs.Ids.{group_id_of}
 use Rattle.al_moves.specs.declared.rule.Rule.{Rule}
 use Rattle.al_moves.specs.Moves.{then_do, same_address, plain_rule, too_few, held_until as rule_until, moved, rekeyed, paid, checked, unless_refused, change_of, AreChanges}
 use Rattle.al_moves.specs.Works.{Worked, IsFixed}
@@ -80,14 +81,55 @@ abbrev pub unless_fault : Option Field → RowMap → Result RowMap Refusal
 unless_fault None m = Ok m
 unless_fault (Some f) m = Err (header f)
 
--- ---- transactions
+-- ---- groups
+
+-- a broken rule with its place in the block, or what comes behind
+abbrev pub first_at : ℕ → Option Rule → Option (ℕ × Rule) → Option (ℕ × Rule)
+first_at place None rest = rest
+first_at place (Some r) rest = Some (place, r)
+
+-- 34: a group has more than 16 members
+abbrev pub size_fault : List Item → Option Rule
+size_fault group = if nat_lt 16 (length group) then Some (plain_rule 34) else None
 
 abbrev pub form_rule : Item → Chain → Option Rule
 form_rule i c = option_map plain_rule (form_fault i c)
 
--- 36: the fee is too low
-abbrev pub fee_fault : ℕ → Option Rule
-fee_fault fee = if nat_lt fee 1000 then Some (too_few 36 fee 1000) else None
+-- 1 to 24: the first member from a place on that breaks a rule of form
+abbrev pub forms_fault : Chain → ℕ → List Item → Option (ℕ × Rule)
+forms_fault c place [] = None
+forms_fault c place (i ∷ is) = first_at place (form_rule i c) (forms_fault c (place + 1) is)
+
+-- 35: a group id that is not zero is not that of the members
+abbrev pub group_id_fault : List Item → Option Rule
+group_id_fault [] = None
+group_id_fault (i ∷ is) =
+    if same_bytes i.txn.group (replicate 32 0) then None else if same_bytes i.txn.group (group_id_of (i ∷ is)) then None else Some (plain_rule 35)
+
+-- the fees of all members together, in microAlgos
+abbrev pub pooled : List Item → ℕ
+pooled group = sum_by (λ i. i.txn.fee) group
+
+-- 36: they are below 1,000 for each member
+abbrev pub pool_fault : List Item → Option Rule
+pool_fault group = if nat_lt (pooled group) (1000 * length group) then Some (too_few 36 (pooled group) (1000 * length group)) else None
+
+-- the first rule that a group breaks before any member changes anything: its size, the forms of its members, its id, its fees
+unfoldable pub group_fault : Chain → ℕ → List Item → Option (ℕ × Rule)
+group_fault c place group =
+    first_at place (size_fault group) (option_or (forms_fault c place group) (first_at place (group_id_fault group) (first_at place (pool_fault group) None)))
+
+-- where no member of the group before is left, the group at the front is looked at
+abbrev pub entered : Chain → ℕ → ℕ → List Item → Option (ℕ × Rule)
+entered c place zero items = group_fault c place (take (group_size items) items)
+entered c place (suc left) items = None
+
+-- how many members of the group are left behind the first transaction
+abbrev pub left_after : ℕ → List Item → ℕ
+left_after zero items = group_size items - 1
+left_after (suc left) items = left
+
+-- ---- transactions
 
 -- 32, 33: the round is outside the transaction's rounds
 abbrev pub window_fault : ℕ → Txn → Option Rule
@@ -106,11 +148,10 @@ held_until round past seen e =
 abbrev pub lease_fault : ℕ → List Entry → List Entry → Entry → Option Rule
 lease_fault round past seen e = option_map (rule_until 31) (held_until round past seen e)
 
--- the first rule that a transaction breaks before it changes anything: its form, its fee, its rounds, its id, its lease
-unfoldable pub item_fault : Chain → ℕ → List Entry → List Entry → Item → Option Rule
-item_fault c round past seen i =
-    option_or (form_rule i c) (option_or (fee_fault i.txn.fee) (option_or (window_fault round i.txn)
-    (option_or (id_fault round past seen (entry_of i.txn)) (lease_fault round past seen (entry_of i.txn)))))
+-- the first rule that a member of a group breaks before it changes anything: its rounds, its id, its lease
+unfoldable pub item_fault : ℕ → List Entry → List Entry → Item → Option Rule
+item_fault round past seen i =
+    option_or (window_fault round i.txn) (option_or (id_fault round past seen (entry_of i.txn)) (lease_fault round past seen (entry_of i.txn)))
 
 -- what a body does. Bodies other than payments are not given yet
 abbrev pub done_by : Body → ℕ → Txn → RowMap → Result RowMap Rule
@@ -126,29 +167,43 @@ applied c level t m =
     then_do (moved level t.sender c.special.sink t.fee m) (λ a. then_do (rekeyed t.sender t.rekey a) (λ b. then_do (body_of level t b) (λ d. checked level c.special m d)))
 
 unfoldable pub transacted : Chain → ℕ → ℕ → List Entry → List Entry → Item → RowMap → Result RowMap Rule
-transacted c round level past seen i m = then_do (unless_refused (item_fault c round past seen i) m) (λ n. applied c level i.txn n)
+transacted c round level past seen i m = then_do (unless_refused (item_fault round past seen i) m) (λ n. applied c level i.txn n)
 
 abbrev pub at_place : ℕ → Result RowMap Rule → Result RowMap Refusal
 at_place place (Ok m) = Ok m
 at_place place (Err r) = Err (broken place r)
 
--- the transactions in order, from a place on, with the entries of those before in the block
-abbrev pub all_items : Chain → ℕ → ℕ → List Entry → ℕ → List Entry → List Item → RowMap → Result RowMap Refusal
-all_items c round level past place seen [] m = Ok m
-all_items c round level past place seen (i ∷ is) m =
-    then_do (at_place place (transacted c round level past seen i m)) (λ n. all_items c round level past (place + 1) (seen ++ entry_of i.txn ∷ []) is n)
+abbrev pub unless_broken : Option (ℕ × Rule) → RowMap → Result RowMap Refusal
+unless_broken None m = Ok m
+unless_broken (Some f) m = Err (broken f.0 f.1)
+
+-- the transactions in order, from a place on, with the entries of those before in the block, and with how many members of a group are left. A group is looked at before its first member, and then each member
+abbrev pub all_items : Chain → ℕ → ℕ → List Entry → ℕ → List Entry → ℕ → List Item → RowMap → Result RowMap Refusal
+all_items c round level past place seen left [] m = Ok m
+all_items c round level past place seen left (i ∷ is) m =
+    then_do (unless_broken (entered c place left (i ∷ is)) m)
+    (λ k. then_do (at_place place (transacted c round level past seen i k))
+    (λ n. all_items c round level past (place + 1) (seen ++ entry_of i.txn ∷ []) (left_after left (i ∷ is)) is n))
 
 -- ---- blocks
 
--- first the header, then the digest of the payset, then the transactions in order, and last their count
+-- first the header, then the digest of the payset, then the groups in order, and last the count of the transactions
 unfoldable pub block_rows : Before → List Entry → Block → RowMap → Result RowMap Refusal
 block_rows s past b m =
     then_do (unless_fault (first_fault (header_checks s b.header)) m)
     (λ m. then_do (unless_fault (payset_fault b) m)
-    (λ m. then_do (all_items s.chain b.header.round b.header.level past 0 [] b.items m)
+    (λ m. then_do (all_items s.chain b.header.round b.header.level past 0 [] 0 b.items m)
     (λ n. unless_fault (counter_fault s b) n)))
 
 -- ---- what calls answer
+
+-- how many members are left behind the first transaction, or the rule that the group breaks
+abbrev pub Opens : {F : Type 0} → Chain → ℕ → ℕ → List Item → Result ℕ (EvalRefusal F) → Type 0
+Opens c place left items (Ok n) = (entered c place left items ≡ None) × (n ≡ left_after left items)
+Opens c place left items (Err (answer.Broken p r)) = entered c place left items ≡ Some (p, r)
+Opens c place left items (Err (answer.Header f)) = ⊥
+Opens c place left items (Err (answer.View f)) = ⊥
+Opens c place left items (Err answer.Memory) = ⊤
 
 abbrev pub IsCounted : {F T : Type 0} → Result T (EvalRefusal F) → ℕ → ℕ → Type 0
 IsCounted (Ok x) before now = ⊤

@@ -6,6 +6,7 @@ mod genesis;
 mod genesis_checks;
 mod genesis_fields;
 mod genesis_record;
+mod group;
 mod header;
 mod laws;
 mod lent;

@@ -62,14 +62,7 @@ fn block_rows<V: RowView>(
         Ok(Some(field)) => return Err(EvalRefusal::Header { field }),
         Err(AllocError) => return Err(EvalRefusal::Memory),
     }
-    all_items(
-        alloc,
-        work,
-        &before.chain,
-        block.header.round,
-        past,
-        block.items.as_slice(),
-    )?;
+    all_items(alloc, work, &before.chain, past, block)?;
     match counter_fault(before, block) {
         Some(field) => Err(EvalRefusal::Header { field }),
         None => Ok(()),
@@ -119,9 +112,10 @@ fn eval_over<V: RowView>(
 
 /// The step of a block over a view: what it changes, or the first refusal. It follows the Algorand
 /// ledger specification: first the header's fields, then the digest of the payset, then each
-/// transaction in order, and last the count of transactions. Each transaction is taken as a group
-/// of its own, bodies other than payments do nothing, the list of expired accounts is not looked
-/// at, and the reward fields are those that are due while nothing is to be given.
+/// group in order, and last the count of transactions. A group is looked at as a whole, and then
+/// each of its members in order. Bodies other than payments do nothing, the list of expired
+/// accounts is not looked at, and the reward fields are those that are due while nothing is to be
+/// given.
 pub fn eval<V: RowView>(
     alloc: Global,
     view: &mut V,

@@ -2,40 +2,18 @@
 ghost use Rattle.std.specs.Prelude.{◌≡◌, [], true};
 ghost use Rattle.al_moves.specs.Works.{Does, IsDone};
 ghost use Rattle.al_eval.specs.Past.{entry_of};
-ghost use Rattle.al_eval.specs.Steps.{Runs, all_items, applied, at_place, body_of, fee_fault, form_rule, held_until, id_fault, item_fault, lease_fault, transacted, window_fault};
+ghost use Rattle.al_eval.specs.Steps.{Runs, all_items, applied, at_place, body_of, held_until, id_fault, item_fault, lease_fault, transacted, window_fault};
 
+use crate::group::open;
 use crate::{Entry, EvalRefusal, Tail};
 use al_base::Hash;
+use al_block::Block;
 use al_moves::{Rule, Stop, Work};
 use al_rows::RowView;
-use al_txn::{Body, Chain, Item, Txn, well_formed};
+use al_txn::{Body, Chain, Item, Txn};
 use std::alloc::Global;
 
-// The least fee of a transaction, in microAlgos.
-const MIN_FEE: u64 = 1_000;
-
 const NO_LEASE: Hash = [0; 32];
-
-// The form rule that an entry breaks.
-fn form_rule(item: &Item, chain: &Chain) -> Option<Rule>
-    ensures { result ≡ form_rule item.now chain.now }
-{
-    match well_formed(item, chain) {
-        Ok(()) => None,
-        Err(ill) => Some(Rule::plain(ill.number)),
-    }
-}
-
-// 36: the fee is too low.
-fn fee_fault(fee: u64) -> Option<Rule>
-    ensures { result ≡ fee_fault fee }
-{
-    if fee < MIN_FEE {
-        Some(Rule::too_few(36, fee, MIN_FEE))
-    } else {
-        None
-    }
-}
 
 // 32, 33: the round is outside the transaction's rounds.
 fn window_fault(round: u64, txn: &Txn) -> Option<Rule>
@@ -84,25 +62,12 @@ fn lease_fault(round: u64, past: &Tail, seen: &Tail, entry: &Entry) -> Option<Ru
     }
 }
 
-// The first rule that a transaction breaks before it changes anything.
+// The first rule that a member of a group breaks before it changes anything.
 #[tactic(auto, unfolding(crate::specs::Steps::item_fault))]
-fn item_fault(
-    chain: &Chain,
-    round: u64,
-    past: &Tail,
-    seen: &Tail,
-    item: &Item,
-    entry: &Entry,
-) -> Option<Rule>
+fn item_fault(round: u64, past: &Tail, seen: &Tail, item: &Item, entry: &Entry) -> Option<Rule>
     requires { entry.now ≡ entry_of item.now.txn }
-    ensures { result ≡ item_fault chain.now round past.now seen.now item.now }
+    ensures { result ≡ item_fault round past.now seen.now item.now }
 {
-    if let Some(rule) = form_rule(item, chain) {
-        return Some(rule);
-    }
-    if let Some(rule) = fee_fault(item.txn.fee) {
-        return Some(rule);
-    }
     if let Some(rule) = window_fault(round, &item.txn) {
         return Some(rule);
     }
@@ -152,7 +117,7 @@ fn transact<V: RowView>(
     requires entry { entry.now ≡ entry_of item.now.txn }
     ensures { IsDone V.tells (transacted chain.now round work.old.level past.now seen.now item.now work.old.now) work.old work.new result }
 {
-    if let Some(rule) = item_fault(chain, round, past, seen, item, entry) {
+    if let Some(rule) = item_fault(round, past, seen, item, entry) {
         return Err(Stop::Rule(rule));
     }
     apply(work, chain, &item.txn)
@@ -181,20 +146,23 @@ fn transact_at<V: RowView>(
     }
 }
 
-/// The transactions of a block in order.
+/// The groups of a block in order, and in each the transactions in order.
 pub fn all_items<V: RowView>(
     alloc: Global,
     work: &mut Work<V>,
     chain: &Chain,
-    round: u64,
     past: &Tail,
-    items: &[Item],
+    block: &Block,
 ) -> Result<(), EvalRefusal<V::Fault>>
     requires { work.old.special ≡ chain.now.special }
-    ensures { Runs V.tells (all_items chain.now round work.old.level past.now 0 [] items.now work.old.now) work.old work.new result }
+    ensures { Runs V.tells (all_items chain.now block.now.header.round work.old.level past.now 0 [] 0 block.now.items work.old.now) work.old work.new result }
 {
+    let round = block.header.round;
+    let items = block.items.as_slice();
     let mut seen = Tail::new(alloc);
+    let mut left = 0;
     for (place, item) in items.iter().enumerate() {
+        left = open(alloc, chain, place, left, block)?;
         let Ok(entry) = Entry::of(alloc, &item.txn) else {
             return Err(EvalRefusal::Memory);
         };
