@@ -258,19 +258,8 @@ number_of (faults.Minimum place) = 7
 number_of faults.TotalLarge = 8
 number_of faults.Memory = 9
 
--- ---- a plain one
+-- ---- a genesis without rewards
 
--- no fields but a status that does not vote, and a balance
-abbrev pub is_plain_row : AccountRow → Bool
-is_plain_row r = account_eq r (record no_account { status = r.status; balance = r.balance })
-
-abbrev pub votes : Status → Bool
-votes Online = true
-votes Offline = false
-votes NotParticipating = false
-
--- the pool has the least balance, and each row is plain and does not vote
-abbrev pub is_plain : Genesis → Bool
-is_plain g =
-    list_any (λ a. bytes_eq a.address.0 g.chain.special.pool.0 && (a.row.balance == least_balance)) g.accounts
-    && list_all (λ a. is_plain_row a.row && not (votes a.row.status)) g.accounts
+-- the pool has the least balance, so it has nothing to give
+abbrev pub has_least_pool : Genesis → Bool
+has_least_pool g = list_any (λ a. bytes_eq a.address.0 g.chain.special.pool.0 && (a.row.balance == least_balance)) g.accounts

@@ -4,7 +4,7 @@ ghost use Rattle.std.specs.List.{list_all, list_any};
 ghost use Rattle.al_msgpack.specs.Places.{IsSpelling};
 ghost use Rattle.al_msgpack.specs.Rising.{canonical};
 ghost use Rattle.std.specs.Str.{bytes_eq};
-ghost use Rattle.al_eval.specs.Genesis.{GenesisAnswers, GenesisMeans, GenesisMeansUnless, IsGenesisOf, first_header, first_row, is_plain, is_plain_row, votes, status_of, interval_of, least_balance, number_of};
+ghost use Rattle.al_eval.specs.Genesis.{GenesisAnswers, GenesisMeans, GenesisMeansUnless, IsGenesisOf, first_header, first_row, has_least_pool, status_of, interval_of, least_balance, number_of};
 ghost use Rattle.al_eval.specs.declared.genesis.Genesis.{Genesis};
 ghost use Rattle.al_eval.specs.declared.genesis.GenesisFault.{GenesisFault};
 ghost use Rattle.al_eval.specs.declared.genesis.GenesisFault.TheVariants.{Memory};
@@ -109,13 +109,12 @@ impl Genesis {
         judge(alloc, input)
     }
 
-    /// Whether the pool has 100,000 microAlgos, and each account has a balance and nothing else,
-    /// and is not online.
-    pub fn is_plain(&self) -> bool
-        ensures { result ≡ is_plain self.now }
+    /// Whether the pool has its least balance, 100,000 microAlgos, so that it gives no rewards.
+    pub fn has_least_pool(&self) -> bool
+        ensures { result ≡ has_least_pool self.now }
     {
-        has_plain_pool(&self.chain.special.pool, self.accounts.as_slice())
-            && are_plain(self.accounts.as_slice())
+        let pool = &self.chain.special.pool;
+        self.accounts.as_slice().iter().any(|a| has_least(pool, a))
     }
 }
 
@@ -261,30 +260,4 @@ fn has_least(pool: &Address, account: &GenesisRow) -> bool
     ensures { result ≡ (bytes_eq account.now.address.0 pool.now.0 && (account.now.row.balance == least_balance)) }
 {
     account.address.0.as_slice() == pool.0.as_slice() && account.row.balance == LEAST_BALANCE
-}
-
-/// The pool is there, with the least balance.
-fn has_plain_pool(pool: &Address, rows: &[GenesisRow]) -> bool
-    ensures { result ≡ list_any (λ a. bytes_eq a.address.0 pool.now.0 && (a.row.balance == least_balance)) rows.now }
-{
-    rows.iter().any(|a| has_least(pool, a))
-}
-
-/// Each row is plain and does not vote.
-fn are_plain(rows: &[GenesisRow]) -> bool
-    ensures { result ≡ list_all (λ a. is_plain_row a.row && not (votes a.row.status)) rows.now }
-{
-    rows.iter().all(|a| is_plain_row(&a.row))
-}
-
-/// A row has a status that does not vote and a balance, and nothing else.
-fn is_plain_row(row: &AccountRow) -> bool
-    ensures { result ≡ (is_plain_row row.now && not (votes row.now.status)) }
-{
-    let plain = AccountRow {
-        status: row.status,
-        balance: row.balance,
-        ..AccountRow::none()
-    };
-    *row == plain && !matches!(row.status, Status::Online)
 }

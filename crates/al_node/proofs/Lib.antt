@@ -1,6 +1,6 @@
 pub mod TakingLemmas
 pub mod KeepLemmas
-pub mod PlainLemmas
+pub mod BuiltLemmas
 pub mod OpenLemmas
 pub mod ServeLemmas
 pub mod ToldLemmas

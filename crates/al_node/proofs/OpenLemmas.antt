@@ -1,5 +1,5 @@
 -- The states of a genesis.
-use Rattle.std.proofs.Common.{◌≡◌, ℕ, List, [], All, Bool, true, false, refl, ap, sym, subst, ◌∙◌, Result, Ok, Err}
+use Rattle.std.proofs.Common.{inl, inr, ◌≤◌, arith, ◌≡◌, ℕ, List, [], All, Bool, true, false, refl, ap, sym, subst, ◌∙◌, Result, Ok, Err}
 use Rattle.std.proofs.lemmas.List.Elements.{All-nil}
 use Rattle.al_block.specs.Block.{IsBlock}
 use Rattle.std.specs.FinMap.{FinMap, from_entries}
@@ -9,7 +9,7 @@ use Rattle.al_rows.specs.declared.stored.Stored.{Stored}
 use Rattle.al_eval.specs.declared.tail.Entry.{Entry}
 use Rattle.al_node.specs.declared.states.Accepted.{Accepted}
 use Rattle.al_node.specs.Held.{Held}
-use Rattle.al_node.specs.Opening.{Opens, IsNoPlainGenesis, fault_of}
+use Rattle.al_node.specs.Opening.{Opens, IsRefusedGenesis, fault_of}
 use Rattle.al_txn.specs.declared.chain.Chain.{Chain}
 use Rattle.al_block.specs.declared.header.Header.{Header}
 use Rattle.al_block.specs.Hashes.{header_hash_of}
@@ -17,7 +17,7 @@ use Rattle.al_rows.specs.Rows.{IsKept}
 use Rattle.al_eval.specs.declared.genesis.Genesis.{Genesis}
 use Rattle.al_eval.specs.declared.genesis.GenesisFault.{GenesisFault}
 use Rattle.al_eval.specs.declared.genesis.GenesisFault.TheVariants as faults
-use Rattle.al_eval.specs.Genesis.{GenesisMeans, GenesisAnswers, is_plain}
+use Rattle.al_eval.specs.Genesis.{GenesisMeansUnless, number_of}
 use Rattle.al_eval.specs.State.{State}
 use Rattle.al_node.specs.Keeping.{Tree, IsKeeping, origin_of, blocks_of}
 
@@ -45,26 +45,30 @@ held_begun chain first header rows accepted all e f a =
     ∙ ap (λ (h : Header). held_of (record { chain = chain; header = h; rows = from_entries rows.entries; past = [] }) []) e
     ∙ ap (λ (m : FinMap key_cmp Stored). held_of (record { chain = chain; header = header; rows = m; past = [] }) []) f
 
--- a fault of the reader says that there is no genesis, but for want of memory
-pub fault_opens : (input : List ℕ) (f : GenesisFault) → ((r : Result Genesis GenesisFault) → GenesisMeans input r → GenesisAnswers (Err f) r) → Opens input (Err (fault_of f))
-fault_opens input faults.Memory only = tt
-fault_opens input (faults.Decode x) only = λ g is plain. (let e = only (Ok g) is in absurd cc)
-fault_opens input (faults.Field x) only = λ g is plain. (let e = only (Ok g) is in absurd cc)
-fault_opens input (faults.Range x) only = λ g is plain. (let e = only (Ok g) is in absurd cc)
-fault_opens input (faults.Order x) only = λ g is plain. (let e = only (Ok g) is in absurd cc)
-fault_opens input faults.Special only = λ g is plain. (let e = only (Ok g) is in absurd cc)
-fault_opens input (faults.PoolLow x) only = λ g is plain. (let e = only (Ok g) is in absurd cc)
-fault_opens input (faults.Minimum x) only = λ g is plain. (let e = only (Ok g) is in absurd cc)
-fault_opens input faults.TotalLarge only = λ g is plain. (let e = only (Ok g) is in absurd cc)
+-- a fault of the reader is shown by its number
+pub fault_opens : (input : List ℕ) (f : GenesisFault) → GenesisMeansUnless input (Err f) → Opens input (Err (fault_of f))
+fault_opens input faults.Memory x = tt
+fault_opens input (faults.Decode e) x = inl (faults.Decode e, x, refl)
+fault_opens input (faults.Field e) x = inl (faults.Field e, x, refl)
+fault_opens input (faults.Range e) x = inl (faults.Range e, x, refl)
+fault_opens input (faults.Order e) x = inl (faults.Order e, x, refl)
+fault_opens input faults.Special x = inl (faults.Special, x, refl)
+fault_opens input (faults.PoolLow e) x = inl (faults.PoolLow e, x, refl)
+fault_opens input (faults.Minimum e) x = inl (faults.Minimum e, x, refl)
+fault_opens input faults.TotalLarge x = inl (faults.TotalLarge, x, refl)
 
--- a genesis that is not plain is the only one
-pub odd_opens : (input : List ℕ) (h : Genesis) → ((r : Result Genesis GenesisFault) → GenesisMeans input r → GenesisAnswers (Ok h) r) → is_plain h ≡ false → IsNoPlainGenesis input
-odd_opens input h only odd g is plain =
-    let e : Ok g ≡ Ok h = only (Ok g) is in
-    let same : g ≡ h = cc in
-    let clash : is_plain h ≡ true = subst (λ (x : Genesis). is_plain x ≡ true) same plain in
-    absurd (bool_clash (is_plain h) clash odd)
-  where
-    bool_clash : (b : Bool) → b ≡ true → b ≡ false → ⊥
-    bool_clash true p q = absurd cc
-    bool_clash false p q = absurd cc
+number_digit : (f : GenesisFault) → number_of f ≤ 9
+number_digit (faults.Decode e) = omega arith
+number_digit (faults.Field e) = omega arith
+number_digit (faults.Range e) = omega arith
+number_digit (faults.Order e) = omega arith
+number_digit faults.Special = omega arith
+number_digit (faults.PoolLow e) = omega arith
+number_digit (faults.Minimum e) = omega arith
+number_digit faults.TotalLarge = omega arith
+number_digit faults.Memory = omega arith
+
+-- the number that is shown is a digit
+pub refused_digit : (file : List ℕ) (n : ℕ) → IsRefusedGenesis file n → n ≤ 9
+refused_digit file n (inl x) = (let d = number_digit x.0 in omega (arith, x.2, d))
+refused_digit file n (inr x) = omega (arith, x.3)

@@ -24,7 +24,7 @@ served_runs words name file before after n s t e named holds opened serves kept 
       holds = holds;
       genesis = opened.1.0;
       decodes = opened.1.1;
-      plain = opened.1.2;
+      least = opened.1.2;
       held = held t;
       end = e;
       serves = subst (λ (h : Held). Serves h (held t) before.left after.left before.written after.written e) opened.1.3 serves;

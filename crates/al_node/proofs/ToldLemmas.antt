@@ -26,8 +26,8 @@ use Rattle.al_msgpack.specs.declared.fault.DecodeFault.TheVariants as places
 use Rattle.al_node.specs.declared.states.Told.{Told}
 use Rattle.al_node.specs.declared.states.States.{States}
 use Rattle.al_node.specs.declared.states.Accepted.{Accepted}
-use Rattle.al_node.specs.Plain.{is_plain}
-use Rattle.al_node.proofs.PlainLemmas.{and_left, and_right}
+use Rattle.al_node.specs.Built.{is_built}
+use Rattle.al_node.proofs.BuiltLemmas.{and_left, and_right}
 use Rattle.al_node.specs.Held.{Held}
 use Rattle.al_node.specs.Keeping.{Tree, IsStates, held, header_at, rows_at, last_rows}
 use Rattle.al_node.proofs.KeepLemmas.{length-blocks, row_is, level_is, before, block_of_at, one_spelling, follows_replay}
@@ -145,11 +145,11 @@ led_to_last s k = follows_replay (held s).origin (last_of s k) s.accepted.items 
 judged_prev : (front : ℕ) (s : State) (b : Block) → same_bytes b.header.prev (header_hash_of s.header) ≡ false → judged front s b ≡ Some (wrong_prev front (header_hash_of s.header))
 judged_prev front s b e = when_false (same_bytes b.header.prev (header_hash_of s.header)) _ _ e
 
-judged_odd : (front : ℕ) (s : State) (b : Block) → same_bytes b.header.prev (header_hash_of s.header) ≡ true → is_plain s.chain.special.pool b ≡ false → judged front s b ≡ Some not_built
-judged_odd front s b e f = when_true (same_bytes b.header.prev (header_hash_of s.header)) _ _ e ∙ when_false (is_plain s.chain.special.pool b) _ _ f
+judged_odd : (front : ℕ) (s : State) (b : Block) → same_bytes b.header.prev (header_hash_of s.header) ≡ true → is_built s.chain.special.pool b ≡ false → judged front s b ≡ Some not_built
+judged_odd front s b e f = when_true (same_bytes b.header.prev (header_hash_of s.header)) _ _ e ∙ when_false (is_built s.chain.special.pool b) _ _ f
 
-judged_step : (front : ℕ) (s : State) (b : Block) → same_bytes b.header.prev (header_hash_of s.header) ≡ true → is_plain s.chain.special.pool b ≡ true → judged front s b ≡ refused front (step s b)
-judged_step front s b e f = when_true (same_bytes b.header.prev (header_hash_of s.header)) _ _ e ∙ when_true (is_plain s.chain.special.pool b) _ _ f
+judged_step : (front : ℕ) (s : State) (b : Block) → same_bytes b.header.prev (header_hash_of s.header) ≡ true → is_built s.chain.special.pool b ≡ true → judged front s b ≡ refused front (step s b)
+judged_step front s b e f = when_true (same_bytes b.header.prev (header_hash_of s.header)) _ _ e ∙ when_true (is_built s.chain.special.pool b) _ _ f
 
 next_posts : (s : States) (k : IsStates s) (body : List ℕ) (b : Block) (a : Answer) → IsBlock body b → b.header.round ≡ suc (length (held s).blocks) → judged (length (held s).blocks) (last_of s k) b ≡ Some a → Posts (held s).origin (held s).blocks body a ⊎ (a ≡ memory_answer)
 next_posts s k body b a is round due = judged_posts (held s).origin (last_of s k) (held s).blocks body b a is round (led_to_last s k) due
@@ -170,7 +170,7 @@ continues : (s : States) (k : IsStates s) (b : Block) → false ≡ not (same_by
 continues s k b same = ap (same_bytes b.header.prev) (sym k.hash_is) ∙ flipped (same_bytes b.header.prev s.before.hash) false same
 
 -- it is not built
-pub odd_posts : (s : States) (k : IsStates s) (body : List ℕ) (b : Block) (a : Answer) → IsBlock body b → b.header.round ≡ suc (length (held s).blocks) → false ≡ not (same_bytes b.header.prev s.before.hash) → is_plain s.before.chain.special.pool b ≡ false → a ≡ not_built
+pub odd_posts : (s : States) (k : IsStates s) (body : List ℕ) (b : Block) (a : Answer) → IsBlock body b → b.header.round ≡ suc (length (held s).blocks) → false ≡ not (same_bytes b.header.prev s.before.hash) → is_built s.before.chain.special.pool b ≡ false → a ≡ not_built
     → Posts (held s).origin (held s).blocks body a ⊎ (a ≡ memory_answer)
 odd_posts s k body b a is round same odd e = next_posts s k body b a is round (judged_odd (length (held s).blocks) (last_of s k) b (continues s k b same) odd ∙ ap Some (sym e))
 
@@ -186,7 +186,7 @@ refused_or s k body b a is round due (inl e) = next_posts s k body b a is round 
 refused_or s k body b a is round due (inr none) = inr none
 
 -- the step refuses it
-pub step_posts : {F : Type 0} (s : States) (k : IsStates s) (body : List ℕ) (b : Block) (rows : Tree) (front : ℕ) (r : EvalRefusal F) (a : Answer) → IsBlock body b → b.header.round ≡ suc (length (held s).blocks) → false ≡ not (same_bytes b.header.prev s.before.hash) → is_plain s.before.chain.special.pool b ≡ true
+pub step_posts : {F : Type 0} (s : States) (k : IsStates s) (body : List ℕ) (b : Block) (rows : Tree) (front : ℕ) (r : EvalRefusal F) (a : Answer) → IsBlock body b → b.header.round ≡ suc (length (held s).blocks) → false ≡ not (same_bytes b.header.prev s.before.hash) → is_built s.before.chain.special.pool b ≡ true
     → rows ≡ last_rows s.rows s.accepted.items → Steps (step (record { chain = s.before.chain; header = s.before.header; rows = from_entries rows.entries; past = k.past }) b) (Err r) → front ≡ length (held s).blocks → ShowsRefusal front r a
     → Posts (held s).origin (held s).blocks body a ⊎ (a ≡ memory_answer)
 step_posts s k body b rows front r a is round same plain led steps at shows =

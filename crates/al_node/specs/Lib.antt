@@ -1,4 +1,4 @@
-pub mod Plain
+pub mod Built
 pub mod Held
 pub mod Replies
 pub mod Connection

@@ -27,7 +27,7 @@ use Rattle.al_http.specs.declared.answer.ErrorName.TheVariants as errors
 use Rattle.al_http.specs.Answers.{nothing, memory_answer, not_built_answer}
 use Rattle.al_node.specs.declared.states.Told.{Told}
 use Rattle.al_node.specs.Held.{Held}
-use Rattle.al_node.specs.Plain.{is_plain}
+use Rattle.al_node.specs.Built.{is_built}
 
 -- ---- look-ups
 
@@ -97,32 +97,24 @@ wrong_prev front kept = answers.Refused 409 errors.WrongPrev (record nothing { f
 abbrev pub wrong_header : ℕ → Field → Answer
 wrong_header front field = answers.Refused 422 errors.Header (record nothing { front = Some front; field = Some field })
 
--- 422: a broken rule with its values
-abbrev pub refused_by : ℕ → ℕ → Rule → Option Address → Answer
-refused_by front place rule who =
-    answers.Refused 422 errors.Broken (record nothing { front = Some front; place = Some place; rule = Some rule.number; has = rule.has; needs = rule.needs; who = who })
-
--- the same by its number; rule 42 keeps whose balance it is, and does not show it
+-- 422: a broken rule with its values; rule 42 keeps whose balance it is, and does not show it
 abbrev pub broken_at : ℕ → ℕ → Rule → Answer
-broken_at front place rule = refused_by front place rule (if nat_eq rule.number 42 then None else rule.who)
+broken_at front place rule =
+    answers.Refused 422 errors.Broken (record nothing { front = Some front; place = Some place; rule = Some rule.number; has = rule.has; needs = rule.needs; until = rule.until; id = rule.id; who = if nat_eq rule.number 42 then None else rule.who })
 
 -- 501: it is not built yet
 abbrev pub not_built : Answer
 not_built = not_built_answer
 
--- the rules that are answered so far: an amount above the balance, and a balance below the minimum
-abbrev pub is_shown : Rule → Bool
-is_shown rule = nat_eq rule.number 40 || nat_eq rule.number 42
-
 -- the refusal by the step, or none where it takes the block
 abbrev pub refused : ℕ → Result State Refusal → Option Answer
 refused front (Ok s) = None
-refused front (Err (broken place rule)) = Some (if is_shown rule then broken_at front place rule else not_built)
+refused front (Err (broken place rule)) = Some (broken_at front place rule)
 refused front (Err (header field)) = Some (wrong_header front field)
 
--- the refusal of a plain block by the step; no other is built
+-- the refusal by the step of a block that is built
 abbrev pub stepped : ℕ → State → Block → Option Answer
-stepped front s b = if is_plain s.chain.special.pool b then refused front (step s b) else Some not_built
+stepped front s b = if is_built s.chain.special.pool b then refused front (step s b) else Some not_built
 
 -- the refusal of a block of the next round, or none where it is taken
 abbrev pub judged : ℕ → State → Block → Option Answer

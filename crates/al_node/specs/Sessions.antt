@@ -1,15 +1,15 @@
 -- What a run of the program is: its words, its one line of text, and its status.
-use Rattle.std.specs.Prelude.{◌≡◌, ◌<◌, ◌⊎◌, ◌&&◌, ℕ, Bool, true, false, not, List, [], ◌∷◌, ◌++◌, length, codes, nat_eq, if◌then◌else◌, Option, Some, None, ⊤}
+use Rattle.std.specs.Prelude.{◌≡◌, ◌<◌, ◌⊎◌, ◌&&◌, ℕ, ◌+◌, Bool, true, false, not, List, [], ◌∷◌, ◌++◌, length, codes, nat_eq, if◌then◌else◌, Option, Some, None, ⊤}
 use Rattle.std.specs.Str.{bytes_eq}
 use mathlib.Core.List.{IsPrefix}
 use Rattle.al_base.specs.Causes.{Left, Wrote, Rose}
 use Rattle.al_base.specs.Folders.{FileMap}
 use Rattle.al_eval.specs.declared.genesis.Genesis.{Genesis}
-use Rattle.al_eval.specs.Genesis.{IsGenesis, is_plain}
+use Rattle.al_eval.specs.Genesis.{IsGenesis, has_least_pool}
 use Rattle.al_eval.specs.Start.{start}
 use Rattle.al_node.specs.Connection.{Serves}
 use Rattle.al_node.specs.Held.{Held, IsValid}
-use Rattle.al_node.specs.Opening.{IsNoPlainGenesis}
+use Rattle.al_node.specs.Opening.{IsRefusedGenesis}
 use Rattle.al_node.specs.declared.link.Ended.{Ended}
 use Rattle.al_node.specs.declared.link.Ended.TheVariants as ended
 
@@ -29,9 +29,9 @@ session_file (command ∷ file ∷ other ∷ more) = None
 abbrev pub usage_line : List ℕ
 usage_line = codes "usage: al_node [--db FILE] COMMAND" ++ 10 ∷ []
 
--- the line of status 3
-abbrev pub genesis_line : List ℕ
-genesis_line = codes "genesis: 0" ++ 10 ∷ []
+-- the line of status 3 names the number, a digit: 48 is the byte of 0
+abbrev pub genesis_line : ℕ → List ℕ
+genesis_line n = codes "genesis: " ++ (48 + n) ∷ 10 ∷ []
 
 -- the line of status 4 names the file
 abbrev pub folder_line : List ℕ → List ℕ
@@ -94,11 +94,12 @@ pub record IsUnread (name : List ℕ) (before after : Outside) (n : ℕ) : Type 
   pub cause : Rose before.folder_faults after.folder_faults ⊎ Holds before.files name None ⊎ IsTooLong before.files name
   pub line : SaysAlone (folder_line name) before after
 
--- status 3: the file holds no plain genesis
+-- status 3: the file holds no genesis that is taken
 pub record IsNoGenesis (name : List ℕ) (before after : Outside) (n : ℕ) : Type 0 where
   pub status : n ≡ 3
-  pub cause : (file : List ℕ) × Holds before.files name (Some file) × IsNoPlainGenesis file
-  pub line : SaysAlone genesis_line before after
+  pub number : ℕ
+  pub cause : (file : List ℕ) × Holds before.files name (Some file) × IsRefusedGenesis file number
+  pub line : SaysAlone (genesis_line number) before after
 
 -- status 7: there was no memory before the connection was served
 pub record IsShort (before after : Outside) (n : ℕ) : Type 0 where
@@ -111,7 +112,7 @@ pub record IsServed (name : List ℕ) (before after : Outside) (n : ℕ) : Type 
   pub holds : Holds before.files name (Some file)
   pub genesis : Genesis
   pub decodes : IsGenesis file genesis
-  pub plain : is_plain genesis ≡ true
+  pub least : has_least_pool genesis ≡ true
   pub held : Held
   pub end : Ended
   pub serves : Serves (record { origin = start genesis; blocks = [] }) held before.left after.left before.written after.written end

@@ -1,11 +1,11 @@
 //! The ledger's program: its words, one connection, and the states that it is answered from.
 #![tactic(auto)]
 
+pub mod built;
 #[cfg(test)]
 mod chain_tests;
 pub mod inbox;
 pub mod link;
-pub mod plain;
 pub mod replies;
 pub mod run;
 pub mod states;

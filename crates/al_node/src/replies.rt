@@ -1,11 +1,11 @@
 //! The answers of the ledger, by what they say.
-ghost use Rattle.std.specs.Prelude.{◌≡◌, ◌<◌, ◌^◌, Some, if◌then◌else◌};
+ghost use Rattle.std.specs.Prelude.{◌≡◌, ◌<◌, ◌^◌, Some};
 ghost use Rattle.std.specs.Option.{option_copied};
 ghost use Rattle.al_http.specs.Answers.{memory_answer, nothing};
 ghost use Rattle.al_http.specs.declared.answer.Answer.TheVariants as answers;
-ghost use Rattle.al_node.specs.Replies.{ShowsRefusal, account_answer, broken_at, fork, is_shown, misspelled, no_row, not_built, refused_by, taken, too_new, undecodable, wrong_header, wrong_prev, wrong_round};
+ghost use Rattle.al_node.specs.Replies.{ShowsRefusal, account_answer, broken_at, fork, misspelled, no_row, not_built, taken, too_new, undecodable, wrong_header, wrong_prev, wrong_round};
 
-use al_base::{Address, Bytes, Hash};
+use al_base::{Bytes, Hash};
 use al_block::{BlockFault, Field};
 use al_eval::EvalRefusal;
 use al_http::{Answer, ErrorName, More};
@@ -155,20 +155,11 @@ pub fn memory() -> Answer
     }
 }
 
-// The refusal by a rule that is shown, or that it is not built.
+// The refusal by a rule.
 fn broken(front: u64, place: usize, rule: &Rule) -> Answer
-    ensures { result ≡ (if is_shown rule.now then broken_at front place rule.now else not_built) }
+    ensures { result ≡ broken_at front place rule.now }
 {
-    match rule.number {
-        40 => broken_by(front, place, rule, rule.who),
-        42 => broken_by(front, place, rule, None),
-        _ => not_built(),
-    }
-}
-
-fn broken_by(front: u64, place: usize, rule: &Rule, who: Option<Address>) -> Answer
-    ensures { result ≡ refused_by front place rule.now who }
-{
+    let who = if rule.number == 42 { None } else { rule.who };
     Answer::Refused {
         status: 422,
         error: ErrorName::Broken,
@@ -178,6 +169,8 @@ fn broken_by(front: u64, place: usize, rule: &Rule, who: Option<Address>) -> Ans
             rule: Some(rule.number),
             has: rule.has,
             needs: rule.needs,
+            until: rule.until,
+            id: rule.id,
             who,
             ..More::nothing()
         },

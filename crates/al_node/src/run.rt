@@ -1,6 +1,6 @@
 //! The command.
 ghost use Rattle.std.specs.Prelude.{◌≡◌, ◌≤◌, IfOk};
-ghost use Rattle.al_node.specs.Sessions.{Runs, Says, folder_line, status_of};
+ghost use Rattle.al_node.specs.Sessions.{Runs, Says, folder_line, genesis_line, status_of};
 
 use crate::link::{Caller, Ended, serve_link};
 use crate::states::{OpenFault, States};
@@ -12,8 +12,6 @@ use std::alloc::{AllocError, Global};
 const MOST_GENESIS: usize = 5_242_880;
 
 const USAGE: &[u8] = b"usage: al_node [--db FILE] COMMAND\n";
-
-const GENESIS: &[u8] = b"genesis: 0\n";
 
 /// The status that the program ends with.
 #[derive(Clone, Copy, Debug, PartialEq, Eq)]
@@ -28,6 +26,16 @@ fn say<T: Sink>(sink: &mut T, line: &[u8])
         Ok(()) => {}
         Err(_) => {}
     }
+}
+
+// The line of status 3.
+fn genesis_line(number: u8) -> [u8; 11]
+    requires { number ≤ 9 }
+    ensures { result ≡ genesis_line number }
+{
+    let mut line = *b"genesis: 0\n";
+    line[9] += number;
+    line
 }
 
 fn folder_text(alloc: Global, name: &str) -> Result<Vec<u8>, AllocError>
@@ -57,7 +65,7 @@ fn status_of(ended: Ended) -> Status
 /// source and the sink.
 ///
 /// The status is 0 where the connection finished; 2 where the words are no command; 3 where the
-/// file holds no plain genesis; 4 where it could not be read; 5 where the connection ended
+/// file holds no genesis that is taken; 4 where it could not be read; 5 where the connection ended
 /// otherwise; 7 where there was no memory. With 2, 3 and 4 one line of text is written, and
 /// nothing else.
 pub fn run<S: Source, T: Sink, F: Folder>(
@@ -93,8 +101,8 @@ pub fn run<S: Source, T: Sink, F: Folder>(
             source,
             sink,
         )),
-        Err(OpenFault::Genesis) => {
-            say(sink, GENESIS);
+        Err(OpenFault::Genesis { number }) => {
+            say(sink, &genesis_line(number));
             Status(3)
         }
         Err(OpenFault::Memory) => Status(7),

@@ -14,7 +14,7 @@ ghost use Rattle.al_node.specs.Opening.{Opens, fault_of};
 ghost use Rattle.al_node.specs.Replies.{IsAnswered, IsRepeated, looked};
 ghost use Rattle.al_rows.specs.Rows.{AccountInRange, IsKept};
 
-use crate::plain::is_plain;
+use crate::built::is_built;
 use crate::replies::{
     account_answer, fork, memory, not_built, refused, taken, too_new, undecodable, wrong_prev,
     wrong_round,
@@ -37,8 +37,9 @@ pub struct Told {
 /// Why a genesis file opens no ledger.
 #[derive(Clone, Copy, Debug, PartialEq, Eq)]
 pub enum OpenFault {
-    /// It holds no plain genesis.
-    Genesis,
+    /// It holds no genesis, and this is the number of its first fault; or, with 0, its pool would
+    /// give rewards, which is not built yet.
+    Genesis { number: u8 },
     /// There was no memory.
     Memory,
 }
@@ -65,7 +66,9 @@ pub struct States {
 impl States {
     /// The ledger that a genesis file begins, with no block.
     ///
-    /// Errors: `Genesis` exactly where the file holds no plain genesis, `Memory` for want of memory.
+    /// Errors: `Genesis` exactly where the file holds no genesis, with the number of its first
+    /// fault, or one whose pool has more than 100,000 microAlgos, with 0; `Memory` for want of
+    /// memory.
     pub fn open(alloc: Global, file: &[u8]) -> Result<States, OpenFault>
         requires { length file.now < 2 ^ 31 }
         ensures { Opens file.now result }
@@ -74,8 +77,8 @@ impl States {
             Ok(genesis) => genesis,
             Err(fault) => return Err(fault_of(&fault)),
         };
-        if !genesis.is_plain() {
-            return Err(OpenFault::Genesis);
+        if !genesis.has_least_pool() {
+            return Err(OpenFault::Genesis { number: 0 });
         }
         match States::begin(alloc, genesis) {
             Ok(states) => Ok(states),
@@ -227,7 +230,7 @@ impl States {
         if block.header.prev != self.before.hash {
             return self.told(wrong_prev(front, self.before.hash));
         }
-        if !is_plain(&self.before.chain.special.pool, &block) {
+        if !is_built(&self.before.chain.special.pool, &block) {
             return self.told(not_built());
         }
         let rows = rows_at(&self.rows, &self.accepted, self.accepted.len());
@@ -293,7 +296,9 @@ fn fault_of(fault: &GenesisFault) -> OpenFault
 {
     match fault {
         GenesisFault::Memory => OpenFault::Memory,
-        _ => OpenFault::Genesis,
+        _ => OpenFault::Genesis {
+            number: fault.number(),
+        },
     }
 }
 

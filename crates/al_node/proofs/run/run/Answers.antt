@@ -1,5 +1,6 @@
 use Rattle.std.proofs.Common.{rules, ◌≡◌, Some, sym, subst}
 use Rattle.al_node.specs.Sessions.{Holds}
+use Rattle.al_node.proofs.OpenLemmas.{refused_digit}
 use Rattle.al_node.proofs.RunLemmas.{read_holds, served_runs}
 use Rattle.al_node.proofs.run.run.Goals as goal
 
@@ -9,3 +10,6 @@ returns-in-Ok-open-clause-runs g c =
     let found : c.in-Ok-Some.field-0 ≡ Some c.in-Ok-Some.bytes = search rules in
     let told : Holds (g.F.Folder.files c.args.folder.now) c.in-Some.name.now (Some c.in-Ok-Some.bytes) = subst (Holds (g.F.Folder.files c.args.folder.now) c.in-Some.name.now) found holds in
     served_runs c.args.words.now c.in-Some.name.now c.as_slice.result.now _ _ _ c.in-Ok-open.states c.serve_link.new.states c.serve_link.result (search rules) (subst (λ file. Holds (g.F.Folder.files c.args.folder.now) c.in-Some.name.now (Some file)) (sym c.as_slice.ensures) told) c.in-Ok-open.ensures c.serve_link.ensures.serves c.serve_link.ensures.states c.status_of.ensures
+
+pub genesis_line-requires : goal.genesis_line-requires
+genesis_line-requires g c = refused_digit c.as_slice.result.now c.in-Genesis.number c.in-Genesis.ensures

@@ -5,12 +5,12 @@ use Rattle.al_eval.specs.State.{step}
 use Rattle.al_node.specs.Keeping.{Tree, held, rows_at, last_rows}
 use Rattle.al_node.proofs.KeepLemmas.{kept_at, follows_replay}
 use Rattle.al_http.specs.declared.asking.Request.TheVariants as asks
-use Rattle.al_node.proofs.PlainLemmas.{plain_pays}
+use Rattle.al_node.proofs.BuiltLemmas.{built_pays}
 use Rattle.al_node.proofs.ToldLemmas.{answered_same, prev_posts, odd_posts, step_posts}
 use Rattle.al_node.proofs.states.States.follow.Goals as goal
 
 pub step_rows-requires-clause-pays : goal.step_rows-requires-clause-pays
-step_rows-requires-clause-pays c = plain_pays c.args.self.now.before.chain.special.pool c.args.block (search rules)
+step_rows-requires-clause-pays c = built_pays c.args.self.now.before.chain.special.pool c.args.block (search rules)
 
 pub step_rows-requires-clause-kept : goal.step_rows-requires-clause-kept
 step_rows-requires-clause-kept c =
@@ -41,10 +41,10 @@ returns-then-ne-clause-answered c =
     let s = c.args.self.now in
     answered_same (held s) asks.Post c.args.body.now c.wrong_prev.result c.told.result c.told.ensures (prev_posts s c.requires.states c.args.body.now c.args.block c.front-front.result c.wrong_prev.result c.requires.spelled c.requires.next c.if-ne.ensures c.front-front.ensures.front c.wrong_prev.ensures)
 
-pub returns-then-not-is_plain-clause-answered : goal.returns-then-not-is_plain-clause-answered
-returns-then-not-is_plain-clause-answered c =
+pub returns-then-not-is_built-clause-answered : goal.returns-then-not-is_built-clause-answered
+returns-then-not-is_built-clause-answered c =
     let s = c.args.self.now in
-    answered_same (held s) asks.Post c.args.body.now c.not_built.result c.told-then-not-is_plain.result c.told-then-not-is_plain.ensures (odd_posts s c.requires.states c.args.body.now c.args.block c.not_built.result c.requires.spelled c.requires.next c.if-ne.ensures (sym c.is_plain.ensures ∙ c.if-not-is_plain.true) c.not_built.ensures)
+    answered_same (held s) asks.Post c.args.body.now c.not_built.result c.told-then-not-is_built.result c.told-then-not-is_built.ensures (odd_posts s c.requires.states c.args.body.now c.args.block c.not_built.result c.requires.spelled c.requires.next c.if-ne.ensures (sym c.is_built.ensures ∙ c.if-not-is_built.true) c.not_built.ensures)
 
 pub returns-in-Err-clause-answered : goal.returns-in-Err-clause-answered
 returns-in-Err-clause-answered c =
@@ -55,4 +55,4 @@ returns-in-Err-clause-answered c =
     let e3 = c.len.ensures in
     let led : c.rows_at-rows.result.now ≡ last_rows s.rows s.accepted.items = cc in
     answered_same (held s) asks.Post c.args.body.now c.refused.result c.told-in-Err.result c.told-in-Err.ensures
-    (step_posts s k c.args.body.now c.args.block c.rows_at-rows.result.now c.front-front.result c.in-Err.refusal c.refused.result c.requires.spelled c.requires.next c.if-ne.ensures (sym c.is_plain.ensures ∙ c.if-not-is_plain.false) led (c.in-Err.ensures.step k.past k.tail_is) c.front-front.ensures.front c.refused.ensures)
+    (step_posts s k c.args.body.now c.args.block c.rows_at-rows.result.now c.front-front.result c.in-Err.refusal c.refused.result c.requires.spelled c.requires.next c.if-ne.ensures (sym c.is_built.ensures ∙ c.if-not-is_built.false) led (c.in-Err.ensures.step k.past k.tail_is) c.front-front.ensures.front c.refused.ensures)
