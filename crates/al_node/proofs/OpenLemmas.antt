@@ -1,5 +1,5 @@
 -- The states of a genesis.
-use Rattle.std.proofs.Common.{inl, inr, ◌≤◌, arith, ◌≡◌, ℕ, List, [], All, Bool, true, false, refl, ap, sym, subst, ◌∙◌, Result, Ok, Err}
+use Rattle.std.proofs.Common.{inl, inr, ◌≤◌, arith, ◌≡◌, ℕ, List, [], All, refl, ap, sym, subst, ◌∙◌, Err}
 use Rattle.std.proofs.lemmas.List.Elements.{All-nil}
 use Rattle.al_block.specs.Block.{IsBlock}
 use Rattle.std.specs.FinMap.{FinMap, from_entries}
@@ -14,7 +14,6 @@ use Rattle.al_txn.specs.declared.chain.Chain.{Chain}
 use Rattle.al_block.specs.declared.header.Header.{Header}
 use Rattle.al_block.specs.Hashes.{header_hash_of}
 use Rattle.al_rows.specs.Rows.{IsKept}
-use Rattle.al_eval.specs.declared.genesis.Genesis.{Genesis}
 use Rattle.al_eval.specs.declared.genesis.GenesisFault.{GenesisFault}
 use Rattle.al_eval.specs.declared.genesis.GenesisFault.TheVariants as faults
 use Rattle.al_eval.specs.Genesis.{GenesisMeansUnless, number_of}

@@ -1,13 +1,16 @@
 -- A run of the program that comes to serving.
-use Rattle.std.proofs.Common.{◌≡◌, ℕ, List, sym, subst, inr, Option, Some, None, Ok}
+use Rattle.std.proofs.Common.{◌≡◌, ℕ, List, sym, subst, inr, Option, Some, None, Ok, Err}
 use Rattle.al_base.specs.Folders.{FileMap, Reads}
 use Rattle.al_node.specs.declared.link.Ended.{Ended}
 use Rattle.al_node.specs.declared.states.States.{States}
+use Rattle.al_node.specs.declared.states.OpenFault.{OpenFault}
+use Rattle.al_node.specs.declared.states.OpenFault.TheVariants as faults
+use Rattle.al_node.proofs.OpenLemmas.{refused_digit}
 use Rattle.al_node.specs.Connection.{Serves}
 use Rattle.al_node.specs.Held.{Held}
 use Rattle.al_node.specs.Keeping.{IsStates, held}
 use Rattle.al_node.specs.Opening.{Opens}
-use Rattle.al_node.specs.Sessions.{Outside, Holds, IsServed, RunsOf, Runs, session_file, status_of}
+use Rattle.al_node.specs.Sessions.{Outside, Holds, IsServed, IsDigit, RunsOf, Runs, session_file, status_of}
 use Rattle.al_node.proofs.KeepLemmas.{states_valid}
 
 -- what a read answers is what the folder holds
@@ -32,3 +35,8 @@ served_runs words name file before after n s t e named holds opened serves kept 
       status = is;
     } in
     subst (λ o. RunsOf o before after n) named (inr (inr (inr x)))
+
+-- the number that is shown of a file that opens nothing is a digit
+pub shown_digit : (file : List ℕ) (f : OpenFault) → Opens file (Err f) → IsDigit f
+shown_digit file (faults.Genesis n) x = refused_digit file n x
+shown_digit file faults.Memory x = tt

@@ -5,7 +5,6 @@ use Rattle.std.specs.Str.{bytes_eq}
 use Rattle.al_base.specs.declared.address.Address.{Address}
 use Rattle.al_txn.specs.declared.body.Body.{Body}
 use Rattle.al_txn.specs.declared.body.Body.TheVariants as bodies
-use Rattle.al_txn.specs.declared.body.Pay.{Pay}
 use Rattle.al_block.specs.declared.block.Block.{Block}
 
 -- a payment that neither pays nor closes to the pool

@@ -1,5 +1,5 @@
 -- What a genesis file opens.
-use Rattle.std.specs.Prelude.{◌≡◌, ℕ, List, [], true, ⊤, Result, Ok, Err}
+use Rattle.std.specs.Prelude.{◌≡◌, ◌⊎◌, ℕ, List, [], true, false, ⊤, Result, Ok, Err}
 use Rattle.al_eval.specs.declared.genesis.Genesis.{Genesis}
 use Rattle.al_eval.specs.declared.genesis.GenesisFault.{GenesisFault}
 use Rattle.al_eval.specs.declared.genesis.GenesisFault.TheVariants as read

@@ -1,5 +1,5 @@
 -- The answers to a request, over the blocks that are held.
-use Rattle.std.specs.Prelude.{◌≡◌, ◌⊎◌, ◌≤◌, ◌<◌, ℕ, suc, Bool, List, [], ◌∷◌, ◌++◌, length, take, nat_lt, nat_eq, ◌||◌, if◌then◌else◌, unwrap_or, Option, Some, None, Result, Ok, Err}
+use Rattle.std.specs.Prelude.{◌≡◌, ◌⊎◌, ◌≤◌, ◌<◌, ℕ, suc, List, [], ◌∷◌, ◌++◌, length, take, nat_lt, nat_eq, if◌then◌else◌, unwrap_or, Option, Some, None, Result, Ok, Err}
 use Rattle.al_base.specs.declared.address.Address.{Address}
 use Rattle.al_base.specs.declared.key.Key.TheVariants as keys
 use Rattle.al_msgpack.specs.declared.fault.DecodeFault.{DecodeFault}

@@ -1,5 +1,5 @@
 -- What a run of the program is: its words, its one line of text, and its status.
-use Rattle.std.specs.Prelude.{◌≡◌, ◌<◌, ◌⊎◌, ◌&&◌, ℕ, ◌+◌, Bool, true, false, not, List, [], ◌∷◌, ◌++◌, length, codes, nat_eq, if◌then◌else◌, Option, Some, None, ⊤}
+use Rattle.std.specs.Prelude.{◌≤◌, ◌<◌, ◌+◌, ⊤, ◌≡◌, ◌⊎◌, ◌&&◌, ℕ, Bool, true, false, not, List, [], ◌∷◌, ◌++◌, length, codes, nat_eq, if◌then◌else◌, Option, Some, None}
 use Rattle.std.specs.Str.{bytes_eq}
 use mathlib.Core.List.{IsPrefix}
 use Rattle.al_base.specs.Causes.{Left, Wrote, Rose}
@@ -10,6 +10,8 @@ use Rattle.al_eval.specs.Start.{start}
 use Rattle.al_node.specs.Connection.{Serves}
 use Rattle.al_node.specs.Held.{Held, IsValid}
 use Rattle.al_node.specs.Opening.{IsRefusedGenesis}
+use Rattle.al_node.specs.declared.states.OpenFault.{OpenFault}
+use Rattle.al_node.specs.declared.states.OpenFault.TheVariants as faults
 use Rattle.al_node.specs.declared.link.Ended.{Ended}
 use Rattle.al_node.specs.declared.link.Ended.TheVariants as ended
 
@@ -50,6 +52,16 @@ status_of ended.Memory = 7
 -- one line was written, or a front of it where the sink failed
 abbrev pub Says : List ℕ → Option (List ℕ) → Option (List ℕ) → ℕ → ℕ → Type 0
 Says line before now f g = Wrote before now line ⊎ ((part : List ℕ) × IsPrefix part line × Wrote before now part × Rose f g)
+
+-- the number that is shown is a digit
+abbrev pub IsDigit : OpenFault → Type 0
+IsDigit (faults.Genesis n) = n ≤ 9
+IsDigit faults.Memory = ⊤
+
+-- what a file that opens nothing is answered: one line and status 3, or nothing and status 7
+abbrev pub Refuses : OpenFault → Option (List ℕ) → Option (List ℕ) → ℕ → ℕ → ℕ → Type 0
+Refuses (faults.Genesis n) before now f g status = (status ≡ 3) × Says (genesis_line n) before now f g
+Refuses faults.Memory before now f g status = (status ≡ 7) × Wrote before now []
 
 -- what a run sees of the outside: the bytes that are left in the source, those that went to the sink, the files, and the counts of faults
 pub record Outside : Type 0 where

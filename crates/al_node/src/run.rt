@@ -1,6 +1,6 @@
 //! The command.
 ghost use Rattle.std.specs.Prelude.{◌≡◌, ◌≤◌, IfOk};
-ghost use Rattle.al_node.specs.Sessions.{Runs, Says, folder_line, genesis_line, status_of};
+ghost use Rattle.al_node.specs.Sessions.{IsDigit, Refuses, Runs, Says, folder_line, genesis_line, status_of};
 
 use crate::link::{Caller, Ended, serve_link};
 use crate::states::{OpenFault, States};
@@ -36,6 +36,21 @@ fn genesis_line(number: u8) -> [u8; 11]
     let mut line = *b"genesis: 0\n";
     line[9] += number;
     line
+}
+
+// Answers a file that opens nothing.
+fn refuse<T: Sink>(sink: &mut T, fault: OpenFault) -> Status
+    requires { IsDigit fault }
+    ensures refuses { Refuses fault (T.written sink.old) (T.written sink.new) (T.faults sink.old) (T.faults sink.new) result.0 }
+    ensures later { T.faults sink.old ≤ T.faults sink.new }
+{
+    match fault {
+        OpenFault::Genesis { number } => {
+            say(sink, &genesis_line(number));
+            Status(3)
+        }
+        OpenFault::Memory => Status(7),
+    }
 }
 
 fn folder_text(alloc: Global, name: &str) -> Result<Vec<u8>, AllocError>
@@ -101,10 +116,6 @@ pub fn run<S: Source, T: Sink, F: Folder>(
             source,
             sink,
         )),
-        Err(OpenFault::Genesis { number }) => {
-            say(sink, &genesis_line(number));
-            Status(3)
-        }
-        Err(OpenFault::Memory) => Status(7),
+        Err(fault) => refuse(sink, fault),
     }
 }

@@ -1,7 +1,6 @@
 use Rattle.std.proofs.Common.{rules, ◌≡◌, Some, sym, subst}
 use Rattle.al_node.specs.Sessions.{Holds}
-use Rattle.al_node.proofs.OpenLemmas.{refused_digit}
-use Rattle.al_node.proofs.RunLemmas.{read_holds, served_runs}
+use Rattle.al_node.proofs.RunLemmas.{read_holds, served_runs, shown_digit}
 use Rattle.al_node.proofs.run.run.Goals as goal
 
 pub returns-in-Ok-open-clause-runs : goal.returns-in-Ok-open-clause-runs
@@ -11,5 +10,5 @@ returns-in-Ok-open-clause-runs g c =
     let told : Holds (g.F.Folder.files c.args.folder.now) c.in-Some.name.now (Some c.in-Ok-Some.bytes) = subst (Holds (g.F.Folder.files c.args.folder.now) c.in-Some.name.now) found holds in
     served_runs c.args.words.now c.in-Some.name.now c.as_slice.result.now _ _ _ c.in-Ok-open.states c.serve_link.new.states c.serve_link.result (search rules) (subst (λ file. Holds (g.F.Folder.files c.args.folder.now) c.in-Some.name.now (Some file)) (sym c.as_slice.ensures) told) c.in-Ok-open.ensures c.serve_link.ensures.serves c.serve_link.ensures.states c.status_of.ensures
 
-pub genesis_line-requires : goal.genesis_line-requires
-genesis_line-requires g c = refused_digit c.as_slice.result.now c.in-Genesis.number c.in-Genesis.ensures
+pub refuse-requires : goal.refuse-requires
+refuse-requires g c = shown_digit c.as_slice.result.now c.in-Err.fault c.in-Err.ensures
