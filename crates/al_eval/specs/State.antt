@@ -51,7 +51,7 @@ stamped round old now = map_entries (λ k r. record { row = r; changed = stamp r
 abbrev pub after : State → Block → RowMap → State
 after s b m = record s { header = b.header; rows = stamped b.header.round s.rows m; past = s.past ++ map (λ i. i.txn) b.items }
 
--- the step of a block: a new state, or the first refusal. It is the ledger's step where each transaction is a payment of its own, outside any group, no account is listed as expired, and nothing is to be given: the pool holds its least, 100,000, and level, rate and residue are 0
+-- the step of a block: a new state, or the first refusal. It is the ledger's step where each transaction is a payment, no account is listed as expired, and nothing is to be given: the pool holds its least, 100,000, and level, rate and residue are 0
 unfoldable pub step : State → Block → Result State Refusal
 step s b = then_do (block_rows (before_of s) (map entry_of s.past) b (bare s.rows)) (λ m. Ok (after s b m))
 
