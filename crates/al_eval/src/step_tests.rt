@@ -92,5 +92,7 @@ fn a_payment_is_applied_once(rt: HostRuntime) -> Result<(), Fail> {
             Some(EvalRefusal::Broken { place: 0, rule }) if rule.number == 30
         )
     );
+    tail.take_back(&block);
+    assert!(rt; !tail.has_id(1_000, &ID));
     Ok(())
 }

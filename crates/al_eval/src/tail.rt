@@ -1,6 +1,7 @@
 //! The transactions that may stand in a chain no second time.
-ghost use Rattle.std.specs.Prelude.{◌≡◌, ◌++◌, ◌∷◌, [], IfOk, OnOk, OnErr, map};
+ghost use Rattle.std.specs.Prelude.{◌≡◌, ◌++◌, ◌∷◌, List, [], IfOk, OnOk, OnErr, map};
 ghost use Rattle.al_rows.specs.Finite.{first_some};
+ghost use Rattle.al_eval.specs.declared.tail.Entry.{Entry};
 ghost use Rattle.al_eval.specs.Past.{entry_of, has_id, lease_end, lease_until};
 
 use al_base::{Address, Hash};
@@ -89,6 +90,15 @@ impl Tail {
     {
         let mut more = entries_of(alloc, b.items.as_slice())?;
         self.entries.append(&mut more)
+    }
+
+    /// Takes back the block that was appended last, so that all is as before it. It takes no memory.
+    pub fn take_back(&mut self, b: &Block)
+        requires { (front : List Entry) × (self.old ≡ front ++ map (λ i. entry_of i.txn) b.now.items) }
+        ensures { (front : List Entry) → self.old ≡ front ++ map (λ i. entry_of i.txn) b.now.items → self.new ≡ front }
+    {
+        let left = self.entries.len() - b.items.len();
+        self.entries.truncate(left);
     }
 
     /// Whether a transaction of this id is here that may stand in this round or later.
