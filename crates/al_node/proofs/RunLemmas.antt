@@ -1,7 +1,9 @@
 -- A run of the program that comes to serving.
 use Rattle.std.proofs.Common.{◌≡◌, ℕ, List, sym, subst, inr, Option, Some, None, Ok, Err}
 use Rattle.al_base.specs.Folders.{FileMap, Reads}
+use Rattle.al_base.specs.Causes.{Rose}
 use Rattle.al_node.specs.declared.link.Ended.{Ended}
+use Rattle.al_node.specs.declared.link.Ended.TheVariants as ended
 use Rattle.al_node.specs.declared.states.States.{States}
 use Rattle.al_node.specs.declared.states.OpenFault.{OpenFault}
 use Rattle.al_node.specs.declared.states.OpenFault.TheVariants as faults
@@ -19,9 +21,9 @@ read_holds None now name limit found x = tt
 read_holds (Some before) None name limit found x = absurd x
 read_holds (Some before) (Some now) name limit found x = sym x.1
 
-pub served_runs : (words : List (List ℕ)) (name file : List ℕ) (before after : Outside) (n : ℕ) (s t : States) (e : Ended) → Some name ≡ session_file words → Holds before.files name (Some file) → Opens file (Ok s) → Serves (held s) (held t) before.left after.left before.written after.written e → IsStates t → n ≡ status_of e
+pub served_runs : (words : List (List ℕ)) (name file : List ℕ) (before after : Outside) (n : ℕ) (s t : States) (e : Ended) → Some name ≡ session_file words → Holds before.files name (Some file) → Opens file (Ok s) → Serves (held s) (held t) before.left after.left before.written after.written e → IsStates t → (e ≡ ended.SourceFault → Rose before.source_faults after.source_faults) → (e ≡ ended.SinkFault → Rose before.sink_faults after.sink_faults) → n ≡ status_of e
     → Runs words before after n
-served_runs words name file before after n s t e named holds opened serves kept is =
+served_runs words name file before after n s t e named holds opened serves kept source sink is =
     let x : IsServed name before after n = record {
       file = file;
       holds = holds;
@@ -33,6 +35,8 @@ served_runs words name file before after n s t e named holds opened serves kept 
       serves = subst (λ (h : Held). Serves h (held t) before.left after.left before.written after.written e) opened.1.3 serves;
       valid = states_valid t kept;
       status = is;
+      source_fault = source;
+      sink_fault = sink;
     } in
     subst (λ o. RunsOf o before after n) named (inr (inr (inr x)))
 

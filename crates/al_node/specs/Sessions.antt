@@ -1,5 +1,5 @@
 -- What a run of the program is: its words, its one line of text, and its status.
-use Rattle.std.specs.Prelude.{◌≤◌, ◌<◌, ◌+◌, ⊤, ◌≡◌, ◌⊎◌, ◌&&◌, ℕ, Bool, true, false, not, List, [], ◌∷◌, ◌++◌, length, codes, nat_eq, if◌then◌else◌, Option, Some, None}
+use Rattle.std.specs.Prelude.{◌≤◌, ◌<◌, ◌+◌, ⊤, ◌≡◌, ◌⊎◌, ◌&&◌, ℕ, Bool, true, false, not, List, [], ◌∷◌, ◌++◌, length, codes, nat_eq, if◌then◌else◌, Option, Some, None, IsSomeAnd}
 use Rattle.std.specs.Str.{bytes_eq}
 use mathlib.Core.List.{IsPrefix}
 use Rattle.al_base.specs.Causes.{Left, Wrote, Rose}
@@ -63,11 +63,18 @@ abbrev pub Refuses : OpenFault → Option (List ℕ) → Option (List ℕ) → �
 Refuses (faults.Genesis n) before now f g status = (status ≡ 3) × Says (genesis_line n) before now f g
 Refuses faults.Memory before now f g status = (status ≡ 7) × Wrote before now []
 
+-- no file is changed, where the files are told
+abbrev pub KeepsFiles : Option FileMap → Option FileMap → Type 0
+KeepsFiles None now = ⊤
+KeepsFiles (Some before) None = ⊥
+KeepsFiles (Some before) (Some now) = (name : List ℕ) → now name ≡ before name
+
 -- what a run sees of the outside: the bytes that are left in the source, those that went to the sink, the files, and the counts of faults
 pub record Outside : Type 0 where
   pub left : Option (List ℕ)
   pub written : Option (List ℕ)
   pub files : Option FileMap
+  pub source_faults : ℕ
   pub sink_faults : ℕ
   pub folder_faults : ℕ
 
@@ -85,11 +92,6 @@ pub record IsSilent (before after : Outside) : Type 0 where
 abbrev pub most_genesis : ℕ
 most_genesis = 5242880
 
--- there are more bytes than the limit
-abbrev pub HasLonger : ℕ → Option (List ℕ) → Type 0
-HasLonger limit None = ⊥
-HasLonger limit (Some bytes) = limit < length bytes
-
 -- this is what the name holds, where the files are told
 abbrev pub Holds : Option FileMap → List ℕ → Option (List ℕ) → Type 0
 Holds None name file = ⊤
@@ -98,7 +100,7 @@ Holds (Some files) name file = files name ≡ file
 -- the file is longer than the limit, where the files are told
 abbrev pub IsTooLong : Option FileMap → List ℕ → Type 0
 IsTooLong None name = ⊤
-IsTooLong (Some files) name = HasLonger most_genesis (files name)
+IsTooLong (Some files) name = IsSomeAnd (files name) (λ bytes. most_genesis < length bytes)
 
 -- status 4: the folder failed, or the file is missing or too long
 pub record IsUnread (name : List ℕ) (before after : Outside) (n : ℕ) : Type 0 where
@@ -130,6 +132,8 @@ pub record IsServed (name : List ℕ) (before after : Outside) (n : ℕ) : Type 
   pub serves : Serves (record { origin = start genesis; blocks = [] }) held before.left after.left before.written after.written end
   pub valid : IsValid held.origin held.blocks
   pub status : n ≡ status_of end
+  pub source_fault : end ≡ ended.SourceFault → Rose before.source_faults after.source_faults
+  pub sink_fault : end ≡ ended.SinkFault → Rose before.sink_faults after.sink_faults
 
 -- a run of these words: status 2 exactly where they name no file of a session
 abbrev pub RunsOf : Option (List ℕ) → Outside → Outside → ℕ → Type 0

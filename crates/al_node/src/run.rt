@@ -1,6 +1,6 @@
 //! The command.
 ghost use Rattle.std.specs.Prelude.{◌≡◌, ◌≤◌, IfOk};
-ghost use Rattle.al_node.specs.Sessions.{IsDigit, Refuses, Runs, Says, folder_line, genesis_line, status_of};
+ghost use Rattle.al_node.specs.Sessions.{IsDigit, KeepsFiles, Refuses, Runs, Says, folder_line, genesis_line, status_of};
 
 use crate::link::{Caller, Ended, serve_link};
 use crate::states::{OpenFault, States};
@@ -90,8 +90,9 @@ pub fn run<S: Source, T: Sink, F: Folder>(
     sink: &mut T,
     folder: &mut F,
 ) -> Status
-    ensures runs { Runs words.now (record { left = S.left source.old; written = T.written sink.old; files = F.files folder.old; sink_faults = T.faults sink.old; folder_faults = F.faults folder.old }) (record { left = S.left source.new; written = T.written sink.new; files = F.files folder.new; sink_faults = T.faults sink.new; folder_faults = F.faults folder.new }) result.0 }
-    ensures later { (S.faults source.old ≤ S.faults source.new) × (T.faults sink.old ≤ T.faults sink.new) }
+    ensures runs { Runs words.now (record { left = S.left source.old; written = T.written sink.old; files = F.files folder.old; source_faults = S.faults source.old; sink_faults = T.faults sink.old; folder_faults = F.faults folder.old }) (record { left = S.left source.new; written = T.written sink.new; files = F.files folder.new; source_faults = S.faults source.new; sink_faults = T.faults sink.new; folder_faults = F.faults folder.new }) result.0 }
+    ensures files { KeepsFiles (F.files folder.old) (F.files folder.new) }
+    ensures later { (S.faults source.old ≤ S.faults source.new) × (T.faults sink.old ≤ T.faults sink.new) × (F.faults folder.old ≤ F.faults folder.new) }
 {
     let Some(name) = words.session_file() else {
         say(sink, USAGE);
