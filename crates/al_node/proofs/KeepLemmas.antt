@@ -89,10 +89,6 @@ rows_last : (rows : Tree) (xs : List Accepted) (a : Accepted) → rows_at rows (
 rows_last rows [] a = refl
 rows_last rows (x ∷ more) a = rows_last x.rows more a
 
-pub length-blocks : (xs : List Accepted) → length (blocks_of xs) ≡ length xs
-length-blocks [] = refl
-length-blocks (x ∷ more) = let e = length-blocks more in omega (arith, e)
-
 -- ---- what is held
 
 pub states_valid : (s : States) → IsStates s → IsValid (held s).origin (held s).blocks

@@ -1,7 +1,8 @@
 -- The answers of the states.
-use Rattle.std.proofs.Common.{◌≡◌, ◌≤◌, ◌<◌, ◌⊎◌, inl, inr, ◌-◌, ℕ, suc, Bool, true, false, not, ◌&&◌, if◌then◌else◌, nat_lt, nat_eq, get_or, ap₂, List, [], ◌∷◌, ◌++◌, length, take, refl, sym, ap, ◌∙◌, arith, subst, length-append, Option, Some, Result, Ok, Err}
-use Rattle.std.proofs.lemmas.List.{take_all}
-use Rattle.std.proofs.lemmas.Bool.{le-ltb, lt-ltb, eqb-true, eq-eqb}
+use Rattle.std.proofs.Common.{◌≡◌, ◌≤◌, ◌<◌, ◌⊎◌, inl, inr, ◌-◌, ℕ, suc, Bool, true, false, not, if◌then◌else◌, nat_lt, get_or, List, [], ◌∷◌, ◌++◌, length, take, refl, sym, ap, ◌∙◌, arith, subst, length-append, Option, Some, Result, Ok, Err}
+use Rattle.std.proofs.lemmas.List.{length-map, take_all}
+use Rattle.std.proofs.lemmas.Bool.{le-ltb, lt-ltb}
+use Rattle.std.proofs.lemmas.Slice.Eq.{bytes_eq-Decides}
 use Rattle.std.specs.BTreeMap as tree
 use Rattle.al_base.specs.declared.address.Address.{Address}
 use Rattle.al_base.specs.declared.key.Key.TheVariants as keys
@@ -27,10 +28,9 @@ use Rattle.al_node.specs.declared.states.Told.{Told}
 use Rattle.al_node.specs.declared.states.States.{States}
 use Rattle.al_node.specs.declared.states.Accepted.{Accepted}
 use Rattle.al_node.specs.Built.{is_built}
-use Rattle.al_node.proofs.BuiltLemmas.{and_left, and_right}
 use Rattle.al_node.specs.Held.{Held}
 use Rattle.al_node.specs.Keeping.{Tree, IsStates, held, header_at, rows_at, last_rows}
-use Rattle.al_node.proofs.KeepLemmas.{length-blocks, row_is, level_is, before, block_of_at, one_spelling, follows_replay}
+use Rattle.al_node.proofs.KeepLemmas.{row_is, level_is, before, block_of_at, one_spelling, follows_replay}
 use Rattle.al_node.specs.Replies.{account_answer, looked_at, too_new, Replies, Posts, IsOutside, IsRepeated, IsBlockOf, IsAnswered, ShowsRefusal, judged, refused, taken, fork, wrong_prev, not_built, undecodable}
 
 when_false : {A : Type 0} (b : Bool) (x y : A) → b ≡ false → (if b then x else y) ≡ y
@@ -41,22 +41,12 @@ when_true : {A : Type 0} (b : Bool) (x y : A) → b ≡ true → (if b then x el
 when_true true x y e = refl
 when_true false x y e = absurd cc
 
-same_true : (xs ys : List ℕ) → same_bytes xs ys ≡ true → xs ≡ ys
-same_true [] [] h = refl
-same_true [] (y ∷ ys) h = absurd cc
-same_true (x ∷ xs) [] h = absurd cc
-same_true (x ∷ xs) (y ∷ ys) h = ap₂ (λ a (zs : List ℕ). a ∷ zs) (eqb-true x y (and_left (nat_eq x y) (same_bytes xs ys) h)) (same_true xs ys (and_right (nat_eq x y) (same_bytes xs ys) h))
-
-same_itself : (xs : List ℕ) → same_bytes xs xs ≡ true
-same_itself [] = refl
-same_itself (x ∷ xs) = ap (λ b. b && same_bytes xs xs) (eq-eqb x x refl) ∙ same_itself xs
-
 -- ---- look-ups
 
 pub looked_found : (s : States) (who : Address) (n level : ℕ) (o : Option Stored) → IsStates s → n ≤ length s.accepted.items → level ≡ (header_at s.first s.accepted.items n).level → o ≡ tree.get key_cmp (rows_at s.rows s.accepted.items n) (keys.Account who)
     → account_answer (length (held s).blocks) n level o ≡ looked_at (held s).origin (held s).blocks who n
 looked_found s who n level o k fits leveled found =
-    let long : length (held s).blocks ≡ length s.accepted.items = length-blocks s.accepted.items in
+    let long : length (held s).blocks ≡ length s.accepted.items = length-map s.accepted.items (λ (a : Accepted). a.block) in
     let late : nat_lt (length (held s).blocks) n ≡ false = le-ltb (length (held s).blocks) n (omega (arith, long, fits)) in
     ap (account_answer (length (held s).blocks) n level) (found ∙ sym (row_is s n (keys.Account who) k fits))
     ∙ ap (λ l. account_answer (length (held s).blocks) n l (row_at (held s).origin (held s).blocks n (keys.Account who))) (leveled ∙ sym (level_is s n k fits))
@@ -106,20 +96,20 @@ judged_posts o s blocks body b a is round led due = inl (inr (b, is, inr (inr (r
 
 kept_block : (s : States) (round : ℕ) (kept : Accepted) → 0 < round → round ≤ length (held s).blocks → kept ≡ get_or s.accepted.items (round - 1) kept → IsBlockOf (held s).blocks round kept.block
 kept_block s round kept some fits at =
-    let short : round - 1 < length s.accepted.items = omega (arith, some, fits, length-blocks s.accepted.items) in
+    let short : round - 1 < length s.accepted.items = omega (arith, some, fits, length-map s.accepted.items (λ (a : Accepted). a.block)) in
     let first : IsBlockOf (held s).blocks round (get_or s.accepted.items (round - 1) kept).block = subst (λ r. IsBlockOf (held s).blocks r (get_or s.accepted.items (round - 1) kept).block) (before round some) (block_of_at s.accepted.items (round - 1) kept short) in
     subst (λ (a : Accepted). IsBlockOf (held s).blocks round a.block) (sym at) first
 
 kept_spelled : (s : States) (round : ℕ) (kept : Accepted) → IsStates s → 0 < round → round ≤ length (held s).blocks → kept ≡ get_or s.accepted.items (round - 1) kept → IsBlock kept.bytes.items kept.block
 kept_spelled s round kept k some fits at =
-    let short : round - 1 < length s.accepted.items = omega (arith, some, fits, length-blocks s.accepted.items) in
+    let short : round - 1 < length s.accepted.items = omega (arith, some, fits, length-map s.accepted.items (λ (a : Accepted). a.block)) in
     subst (λ (a : Accepted). IsBlock a.bytes.items a.block) (sym at) (k.spelled (round - 1) kept short)
 
 -- the same bytes
 pub repeat_is : (s : States) (body bytes : List ℕ) (round : ℕ) (kept : Accepted) (a : Answer) → IsStates s → 0 < round → round ≤ length (held s).blocks → kept ≡ get_or s.accepted.items (round - 1) kept → bytes ≡ kept.bytes.items → same_bytes bytes body ≡ true → a ≡ taken (length (held s).blocks) round
     → IsRepeated (held s).blocks body round a
 repeat_is s body bytes round kept a k some fits at seen same is =
-    let one : kept.bytes.items ≡ body = sym seen ∙ same_true bytes body same in
+    let one : kept.bytes.items ≡ body = sym seen ∙ (bytes_eq-Decides bytes body).0 same in
     (kept.block, kept_block s round kept some fits at, inl (subst (λ zs. IsBlock zs kept.block) one (kept_spelled s round kept k some fits at), is))
 
 -- other bytes
@@ -130,7 +120,7 @@ fork_is s body bytes round kept a k some fits at seen differ is = (kept.block, k
     other : IsBlock body kept.block → ⊥
     other x =
         let one : bytes ≡ body = seen ∙ one_spelling kept.bytes.items body kept.block (kept_spelled s round kept k some fits at) x in
-        let e : same_bytes bytes body ≡ true = ap (same_bytes bytes) (sym one) ∙ same_itself bytes in
+        let e : same_bytes bytes body ≡ true = ap (same_bytes bytes) (sym one) ∙ (bytes_eq-Decides bytes bytes).1 refl in
         absurd cc
 
 -- ---- a block of the next round

@@ -2,7 +2,11 @@ use crate::link::{Caller, Ended, serve_link};
 use crate::run::run;
 use crate::states::States;
 use crate::words::Words;
-use al_base::{Bytes, Failed, Files, MemFolder, MemSink, MemSource, NamedFile, Sink, Source};
+use al_base::{
+    Bytes, Failed, Files, Folder, FolderRefusal, MemFolder, MemSink, MemSource, NamedFile, Sink,
+    Source,
+};
+use al_eval::Genesis;
 use std::alloc::{AllocError, Global};
 use std::test::*;
 
@@ -399,5 +403,108 @@ fn failing_calls(rt: HostRuntime) -> Result<(), Fail> {
     let mut source = source_of(alloc, &[(b"\x82", b"")], &[])?;
     let refusal = ends(alloc, &mut source, &[1], &[], 0)?;
     assert_eq!(rt; refusal, (Some(Ended::SinkFault), true));
+    Ok(())
+}
+
+/// A source without an end: each call gives one request.
+#[derive(Drop)]
+struct Endless;
+
+impl Source for Endless {
+    ghost use Rattle.std.specs.Prelude.{None};
+
+    ghost left = { λ _. None };
+
+    ghost faults = { λ _. 0 };
+
+    fn take(&mut self, buf: &mut [u8]) -> Result<usize, Failed> {
+        let n = EMPTY.len().min(buf.len());
+        buf[..n].copy_from_slice(&EMPTY[..n]);
+        Ok(n)
+    }
+}
+
+/// A sink that counts what it is given.
+#[derive(Drop)]
+struct Counting {
+    puts: u64,
+}
+
+impl Sink for Counting {
+    ghost use Rattle.std.specs.Prelude.{None};
+
+    ghost written = { λ _. None };
+
+    ghost faults = { λ _. 0 };
+
+    fn put(&mut self, _bytes: &[u8]) -> Result<(), Failed> {
+        self.puts = self.puts.saturating_add(1);
+        Ok(())
+    }
+}
+
+#[test]
+fn a_million_requests(rt: HostRuntime) -> Result<(), Fail> {
+    let alloc = rt.alloc();
+    let Ok(mut states) = States::open(alloc, GENESIS) else {
+        return Err(Fail::new("no states"));
+    };
+    let mut sink = Counting { puts: 0 };
+    let ended = serve_link(
+        alloc,
+        &mut states,
+        &mut Caller::new(),
+        &mut Endless,
+        &mut sink,
+    );
+    assert_eq!(rt; (ended, sink.puts), (Ended::Spent, 1_000_000));
+    Ok(())
+}
+
+/// A folder that has no room to read a file.
+#[derive(Drop)]
+struct Full;
+
+impl Folder for Full {
+    ghost use Rattle.std.specs.Prelude.{None};
+
+    ghost files = { λ _. None };
+
+    ghost faults = { λ _. 0 };
+
+    fn read(
+        &mut self,
+        _alloc: Global,
+        _name: &str,
+        _limit: usize,
+    ) -> Result<Option<Bytes>, FolderRefusal> {
+        Err(FolderRefusal::Memory)
+    }
+
+    fn write(&mut self, _name: &str, _bytes: &[u8]) -> Result<(), Failed> {
+        Ok(())
+    }
+}
+
+#[test]
+fn want_of_memory(rt: HostRuntime) -> Result<(), Fail> {
+    let alloc = rt.alloc();
+    let words = words_of(alloc, &["session", "g"])?;
+    let mut source = source_of(alloc, &PAYMENT, &[])?;
+    let mut sink = MemSink::new(alloc, b"", &[])?;
+    let status = run(alloc, &words, &mut source, &mut sink, &mut Full);
+    assert_eq!(rt; (status.0, sink.bytes().len()), (7, 0));
+    Ok(())
+}
+
+#[test]
+fn a_chain_is_copied(rt: HostRuntime) -> Result<(), Fail> {
+    let alloc = rt.alloc();
+    let Ok(genesis) = Genesis::decode(alloc, GENESIS) else {
+        return Err(Fail::new("no genesis"));
+    };
+    let chain = genesis.chain.copy(alloc)?;
+    assert_eq!(rt; chain.hash, genesis.chain.hash);
+    assert_eq!(rt; (chain.interval, chain.id.as_slice()), (500_000, b"t".as_slice()));
     Ok(())
 }

@@ -1,3 +1,5 @@
+use Rattle.std.proofs.lemmas.List.{length-map}
+use Rattle.al_node.specs.declared.states.Accepted.{Accepted}
 use Rattle.std.proofs.Common.{◌≡◌, ◌≤◌, ◌∙◌, arith, ap, subst, sym, length, All, unwrap_or}
 use Rattle.al_rows.specs.Rows.{IsKept}
 use Rattle.al_http.specs.Answers.{IsSound}
@@ -7,7 +9,7 @@ use Rattle.al_base.specs.Keys.{key_cmp}
 use Rattle.al_base.specs.declared.key.Key.TheVariants as keys
 use Rattle.al_node.specs.Keeping.{Tree, rows_at, header_at, held}
 use Rattle.al_node.specs.Replies.{account_answer, looked_at}
-use Rattle.al_node.proofs.KeepLemmas.{kept_at, shown_sound, length-blocks}
+use Rattle.al_node.proofs.KeepLemmas.{kept_at, shown_sound}
 use Rattle.al_node.proofs.ToldLemmas.{looked_found}
 use Rattle.al_node.proofs.states.States.look.Goals as goal
 
@@ -24,7 +26,7 @@ returns-clause-looked c =
     let s = c.args.self.now in
     let n = c.unwrap_or-round.result in
     let front : c.front-front.result ≡ length (held s).blocks = c.front-front.ensures.front in
-    let fits : n ≤ length s.accepted.items = omega (arith, c.if-front-round.false, front, length-blocks s.accepted.items) in
+    let fits : n ≤ length s.accepted.items = omega (arith, c.if-front-round.false, front, length-map s.accepted.items (λ (a : Accepted). a.block)) in
     let e1 = c.rows_at-rows.ensures in
     let e2 = c.deref.ensures in
     let e3 = c.level_at-level.ensures in
