@@ -1,4 +1,6 @@
 pub mod Places
+pub mod Marks
+pub mod Pasts
 pub mod Meaning
 pub mod Ends
 pub mod Nexts

@@ -1,5 +1,6 @@
 pub mod Genesis
 pub mod Past
+pub mod Latest
 pub mod Steps
 pub mod Next
 pub mod State

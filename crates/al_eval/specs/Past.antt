@@ -1,9 +1,8 @@
--- What a chain keeps of its transactions, by the Algorand ledger specification: an id stands in it once, and a sender's lease is held up to the last valid round of its holder.
-use Rattle.std.specs.Prelude.{ℕ, List, [], ◌∷◌, Bool, false, ◌&&◌, ◌||◌, nat_le, if◌then◌else◌}
+-- What a chain keeps of its transactions, by the Algorand ledger specification: an id stands in it once, and a sender's lease is held up to the greatest last valid round of its holders.
+use Rattle.std.specs.Prelude.{ℕ, List, [], ◌∷◌, Bool, false, ◌&&◌, ◌||◌, max, nat_le, if◌then◌else◌}
 use Rattle.std.specs.declared.option.Option.{Option}
 use Rattle.std.specs.declared.option.Option.TheVariants.{None, Some}
 use Rattle.al_base.specs.declared.address.Address.{Address}
-use Rattle.al_rows.specs.Finite.{first_some}
 use Rattle.al_rows.specs.Rows.{same_bytes}
 use Rattle.al_moves.specs.Moves.{same_address}
 use Rattle.al_txn.specs.declared.txn.Txn.{Txn}
@@ -18,10 +17,29 @@ abbrev pub has_id : ℕ → List ℕ → List Entry → Bool
 has_id round id [] = false
 has_id round id (e ∷ es) = nat_le round e.last && same_bytes e.id id || has_id round id es
 
--- the last round of a lease, where the entry holds it in the round
-abbrev pub lease_end : ℕ → Address → List ℕ → Entry → Option ℕ
-lease_end round sender lease e = if nat_le round e.last && same_address e.sender sender && same_bytes e.lease lease then Some e.last else None
+-- the later of a round and one that may be there
+abbrev pub later : ℕ → Option ℕ → ℕ
+later last None = last
+later last (Some other) = max last other
+
+-- the greatest last valid round of the entries that pass a test, none where none passes
+abbrev pub greatest_last : (Entry → Bool) → List Entry → Option ℕ
+greatest_last test [] = None
+greatest_last test (e ∷ es) = if test e then Some (later e.last (greatest_last test es)) else greatest_last test es
+
+-- whether an entry is of the sender, with the lease
+abbrev pub holds_lease : Address → List ℕ → Entry → Bool
+holds_lease sender lease e = same_address e.sender sender && same_bytes e.lease lease
+
+-- the last round that a sender's lease is held, none where no entry holds it
+abbrev pub held_to : Address → List ℕ → List Entry → Option ℕ
+held_to sender lease es = greatest_last (holds_lease sender lease) es
+
+-- a last round that may be there, where the round is at most it
+abbrev pub from_round : ℕ → Option ℕ → Option ℕ
+from_round round None = None
+from_round round (Some last) = if nat_le round last then Some last else None
 
 -- the last round that a sender's lease is held, where it is held in the round
 abbrev pub lease_until : ℕ → Address → List ℕ → List Entry → Option ℕ
-lease_until round sender lease es = first_some (lease_end round sender lease) es
+lease_until round sender lease es = from_round round (held_to sender lease es)

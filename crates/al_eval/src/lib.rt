@@ -8,6 +8,7 @@ mod genesis_fields;
 mod genesis_record;
 mod group;
 mod header;
+mod latest;
 mod laws;
 mod lent;
 mod next;

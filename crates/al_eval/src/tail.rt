@@ -1,9 +1,10 @@
 //! The transactions that may stand in a chain no second time.
-ghost use Rattle.std.specs.Prelude.{◌≡◌, ◌++◌, ◌∷◌, List, [], IfOk, OnOk, OnErr, map};
-ghost use Rattle.al_rows.specs.Finite.{first_some};
+ghost use Rattle.std.specs.Prelude.{◌≡◌, ◌++◌, ◌∷◌, ◌-◌, List, [], IfOk, OnOk, OnErr, length, map, take};
 ghost use Rattle.al_eval.specs.declared.tail.Entry.{Entry};
-ghost use Rattle.al_eval.specs.Past.{entry_of, has_id, lease_end, lease_until};
+ghost use Rattle.al_eval.specs.Past.{entry_of, has_id, lease_until};
+ghost use Rattle.al_eval.specs.Latest.{Knows, at, id_mark, lease_mark};
 
+use crate::latest::{Latest, Mark};
 use al_base::{Address, Hash};
 use al_block::Block;
 use al_txn::{Item, Txn, txid};
@@ -37,31 +38,47 @@ impl Entry {
         })
     }
 
-    // The last round of a lease, where this entry holds it in a round.
-    fn lease_end(&self, round: u64, sender: &Address, lease: &Hash) -> Option<u64>
-        ensures { result ≡ lease_end round sender.now lease.now self.now }
+    /// The mark of its id.
+    pub(crate) fn id_mark(&self) -> Mark
+        ensures { result ≡ id_mark self.now }
     {
-        if round <= self.last && self.sender == *sender && self.lease == *lease {
-            Some(self.last)
-        } else {
-            None
-        }
+        Mark::Id(self.id)
+    }
+
+    /// The mark of its sender's lease.
+    pub(crate) fn lease_mark(&self) -> Mark
+        ensures { result ≡ lease_mark self.now }
+    {
+        Mark::Lease(self.sender, self.lease)
     }
 }
 
-/// The transactions of a chain, as a list of what is kept of each.
+// An entry, and what stood under its marks before it.
+#[derive(Clone, Copy)]
+struct Kept {
+    entry: Entry,
+    id_before: Option<u64>,
+    lease_before: Option<u64>,
+}
+
+/// The transactions of a chain, as a list of what is kept of each. A look-up takes the logarithm of
+/// their number.
 #[derive(Drop)]
 pub struct Tail {
-    entries: Vec<Entry>,
+    kept: Vec<Kept>,
+    latest: Latest,
 }
 
 impl Model for Tail {
     ghost use Rattle.std.specs.Prelude.{List};
     ghost use Rattle.al_eval.specs.declared.tail.Entry.{Entry};
+    ghost use Rattle.al_eval.specs.Latest.{IsIndexed, entries_of};
 
     ghost Value = { List Entry };
 
-    ghost view = { λ t. t.entries.items };
+    ghost view = { λ t. entries_of t.kept.items };
+
+    ghost invariant = { λ t. IsIndexed t.latest.rounds.entries t.kept.items };
 }
 
 impl Tail {
@@ -70,7 +87,8 @@ impl Tail {
         ensures { result ≡ [] }
     {
         Tail {
-            entries: Vec::new(alloc),
+            kept: Vec::new(alloc),
+            latest: Latest::new(alloc),
         }
     }
 
@@ -79,7 +97,47 @@ impl Tail {
         ensures ok { OnOk result (self.new ≡ self.old ++ entry ∷ []) }
         ensures err { OnErr result (self.new ≡ self.old) }
     {
-        self.entries.push(entry)?;
+        self.kept.push(with_before(&self.latest, entry))?;
+        match self.latest.raise(&entry) {
+            Ok(()) => Ok(()),
+            Err(refused) => {
+                self.kept.pop();
+                Err(refused)
+            }
+        }
+    }
+
+    // Takes back the entry that was appended last, where there is one.
+    fn take_last(&mut self)
+        ensures { self.new ≡ take (length self.old - 1) self.old }
+    {
+        if let Some(kept) = self.kept.pop() {
+            self.latest.put_back(&kept.entry.id_mark(), kept.id_before);
+            self.latest
+                .put_back(&kept.entry.lease_mark(), kept.lease_before);
+        }
+    }
+
+    // Takes back this many entries.
+    fn shorten(&mut self, count: usize)
+        ensures { self.new ≡ take (length self.old - count) self.old }
+    {
+        for _taken in 0..count {
+            self.take_last();
+        }
+    }
+
+    // Appends entries. A refused call leaves it as it was.
+    fn push_each(&mut self, entries: &[Entry]) -> Result<(), AllocError>
+        ensures ok { OnOk result (self.new ≡ self.old ++ entries.now) }
+        ensures err { OnErr result (self.new ≡ self.old) }
+    {
+        for (count, entry) in entries.iter().enumerate() {
+            if let Err(refused) = self.push(*entry) {
+                self.shorten(count);
+                return Err(refused);
+            }
+        }
         Ok(())
     }
 
@@ -88,8 +146,8 @@ impl Tail {
         ensures ok { OnOk result (self.new ≡ self.old ++ map (λ i. entry_of i.txn) b.now.items) }
         ensures err { OnErr result (self.new ≡ self.old) }
     {
-        let mut more = entries_of(alloc, b.items.as_slice())?;
-        self.entries.append(&mut more)
+        let more = entries_of(alloc, b.items.as_slice())?;
+        self.push_each(more.as_slice())
     }
 
     /// Takes back the block that was appended last, so that all is as before it. It takes no memory.
@@ -97,32 +155,39 @@ impl Tail {
         requires { (front : List Entry) × (self.old ≡ front ++ map (λ i. entry_of i.txn) b.now.items) }
         ensures { (front : List Entry) → self.old ≡ front ++ map (λ i. entry_of i.txn) b.now.items → self.new ≡ front }
     {
-        let left = self.entries.len() - b.items.len();
-        self.entries.truncate(left);
+        self.shorten(b.items.len());
     }
 
     /// Whether a transaction of this id is here that may stand in this round or later.
     pub fn has_id(&self, round: u64, id: &Hash) -> bool
         ensures { result ≡ has_id round id.now self.now }
     {
-        for entry in self.entries.as_slice() {
-            if round <= entry.last && entry.id == *id {
-                return true;
-            }
+        match self.latest.last(&Mark::Id(*id)) {
+            Some(last) => round <= last,
+            None => false,
         }
-        false
     }
 
     /// The last round that a sender's lease is held, where it is held in this round.
     pub fn lease_until(&self, round: u64, sender: &Address, lease: &Hash) -> Option<u64>
         ensures { result ≡ lease_until round sender.now lease.now self.now }
     {
-        for entry in self.entries.as_slice() {
-            if let Some(until) = entry.lease_end(round, sender, lease) {
-                return Some(until);
-            }
+        match self.latest.last(&Mark::Lease(*sender, *lease)) {
+            Some(last) if round <= last => Some(last),
+            _ => None,
         }
-        None
+    }
+}
+
+// An entry, and what stands under its marks.
+fn with_before(latest: &Latest, entry: Entry) -> Kept
+    ensures entry { result.entry ≡ entry }
+    ensures knows { Knows (at latest.now.rounds.entries) result }
+{
+    Kept {
+        entry,
+        id_before: latest.last(&entry.id_mark()),
+        lease_before: latest.last(&entry.lease_mark()),
     }
 }
 

@@ -1,0 +1,24 @@
+use Rattle.std.proofs.Common.{List, ℕ, Option, sym, subst, IsSome}
+use Rattle.al_eval.specs.declared.latest.Mark.{Mark}
+use Rattle.al_eval.specs.Latest.{at}
+use Rattle.al_eval.proofs.Marks.{IsPut, put_there, put_undone, raised_both}
+use Rattle.al_eval.proofs.latest.Latest.raise.Goals as goal
+
+pub put_back-requires : goal.put_back-requires
+put_back-requires c =
+    subst (λ (rs : List (Mark × ℕ)). IsSome (at rs c.id_mark-id.result)) (sym c.in-Err.ensures.err)
+    (put_there c.id_mark-id.result _ (at c.args.self.now.rounds.entries) (at c.raise_one.new.self.rounds.entries) c.in_ok-raise_one.ensures.ok)
+
+pub returns-in-Err-clause-err : goal.returns-in-Err-clause-err
+returns-in-Err-clause-err c =
+    let i = c.id_mark-id.result in
+    let old = c.args.self.now.rounds.entries in
+    let mid = c.raise_one.new.self.rounds.entries in
+    let end = c.put_back.new.self.rounds.entries in
+    let second : IsPut i c.last-before.result (at mid) (at end) = subst (λ (rs : List (Mark × ℕ)). IsPut i c.last-before.result (at rs) (at end)) c.in-Err.ensures.err c.put_back.ensures in
+    put_undone i _ (at old) (at mid) (at end) c.in_ok-raise_one.ensures.ok (subst (λ (o : Option ℕ). IsPut i o (at mid) (at end)) c.last-before.ensures second)
+
+pub returns-in-Ok-clause-ok : goal.returns-in-Ok-clause-ok
+returns-in-Ok-clause-ok c =
+    raised_both c.args.entry.now c.id_mark-id.result c.lease_mark.result (at c.args.self.now.rounds.entries) (at c.raise_one.new.self.rounds.entries) (at c.raise_one-2.new.self.rounds.entries)
+    c.id_mark-id.ensures c.lease_mark.ensures c.in_ok-raise_one.ensures.ok c.in-Ok.ensures.ok

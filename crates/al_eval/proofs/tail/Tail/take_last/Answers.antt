@@ -1,0 +1,24 @@
+use Rattle.std.proofs.Common.{List, subst}
+use Rattle.al_eval.specs.declared.tail.Kept.{Kept}
+use Rattle.al_eval.specs.Latest.{IsIndexed}
+use Rattle.al_eval.proofs.Pasts.{id_has, lease_has, indexed_back}
+use Rattle.al_eval.proofs.tail.Tail.take_last.Goals as goal
+
+pub put_back-requires : goal.put_back-requires
+put_back-requires c =
+    let rounds = c.self.inside.latest.rounds.entries in
+    let whole = subst (λ (ks : List Kept). IsIndexed rounds ks) c.in-Some.ensures.items c.self.invariant in
+    id_has rounds c.pop.new.self.items c.in-Some.kept c.id_mark.result whole c.id_mark.ensures
+
+pub put_back-requires-in-Some : goal.put_back-requires-in-Some
+put_back-requires-in-Some c =
+    let rounds = c.self.inside.latest.rounds.entries in
+    let whole = subst (λ (ks : List Kept). IsIndexed rounds ks) c.in-Some.ensures.items c.self.invariant in
+    lease_has rounds c.put_back.new.self.rounds.entries c.pop.new.self.items c.in-Some.kept c.id_mark.result c.lease_mark.result whole c.id_mark.ensures c.lease_mark.ensures c.put_back.ensures
+
+pub invariant_of-self : goal.invariant_of-self
+invariant_of-self c =
+    let rounds = c.self.inside.latest.rounds.entries in
+    let whole = subst (λ (ks : List Kept). IsIndexed rounds ks) c.in-Some.ensures.items c.self.invariant in
+    indexed_back rounds c.put_back.new.self.rounds.entries c.put_back-in-Some.new.self.rounds.entries c.pop.new.self.items c.in-Some.kept c.id_mark.result c.lease_mark.result whole
+    c.id_mark.ensures c.lease_mark.ensures c.put_back.ensures c.put_back-in-Some.ensures

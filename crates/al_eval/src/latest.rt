@@ -1,0 +1,111 @@
+//! The greatest last valid round under each id and each sender's lease.
+ghost use Rattle.std.specs.Prelude.{◌≡◌, Some, None, IsSome, OnOk, OnErr, cond};
+ghost use Rattle.std.specs.BTreeMap.{is_at};
+ghost use Rattle.al_eval.specs.Past.{later};
+ghost use Rattle.al_eval.specs.Latest.{at, mark_cmp, raised};
+
+use crate::Entry;
+use al_base::{Address, Hash};
+use std::alloc::{AllocError, Global};
+use std::collections::BTreeMap;
+
+/// What an entry is found by.
+#[derive(Clone, Copy, PartialEq, Eq, PartialOrd, Ord)]
+pub enum Mark {
+    /// The transaction's id.
+    Id(Hash),
+    /// Its sender and its lease.
+    Lease(Address, Hash),
+}
+
+/// The greatest last valid round under each mark.
+#[derive(Drop)]
+pub struct Latest {
+    rounds: BTreeMap<Mark, u64>,
+}
+
+impl Latest {
+    /// No round.
+    pub fn new(alloc: Global) -> Latest
+        ensures { (q : _) → at result.rounds.entries q ≡ None }
+    {
+        Latest {
+            rounds: BTreeMap::new(alloc),
+        }
+    }
+
+    /// The round under a mark.
+    pub fn last(&self, mark: &Mark) -> Option<u64>
+        ensures { result ≡ at self.now.rounds.entries mark.now }
+    {
+        self.rounds.get(mark).copied()
+    }
+
+    // Puts a round under a mark. Only a new mark takes memory.
+    fn put(&mut self, mark: &Mark, last: u64) -> Result<(), AllocError>
+        ensures ok { OnOk result ((q : _) → at self.new.rounds.entries q ≡ cond (is_at (mark_cmp mark.now) q) (Some last) (at self.old.rounds.entries q)) }
+        ensures err { OnErr result (self.new.rounds.entries ≡ self.old.rounds.entries) }
+        ensures absent { OnErr result (at self.old.rounds.entries mark.now ≡ None) }
+    {
+        match self.rounds.insert(*mark, last) {
+            Ok(_) => Ok(()),
+            Err(_) => Err(AllocError),
+        }
+    }
+
+    // Takes the round under a mark away.
+    fn take_away(&mut self, mark: &Mark)
+        ensures { (q : _) → at self.new.rounds.entries q ≡ cond (is_at (mark_cmp mark.now) q) None (at self.old.rounds.entries q) }
+    {
+        let _ = self.rounds.remove(mark);
+    }
+
+    /// Puts back what stood under a mark, which has a round now. It takes no memory.
+    pub fn put_back(&mut self, mark: &Mark, before: Option<u64>)
+        requires { IsSome (at self.old.rounds.entries mark.now) }
+        ensures { (q : _) → at self.new.rounds.entries q ≡ cond (is_at (mark_cmp mark.now) q) before (at self.old.rounds.entries q) }
+    {
+        match before {
+            Some(last) => {
+                let _ = self.put(mark, last);
+            }
+            None => self.take_away(mark),
+        }
+    }
+
+    // The round under a mark is at least this one from now on.
+    fn raise_one(&mut self, mark: &Mark, last: u64) -> Result<(), AllocError>
+        ensures ok { OnOk result ((q : _) → at self.new.rounds.entries q ≡ cond (is_at (mark_cmp mark.now) q) (Some (later last (at self.old.rounds.entries mark.now))) (at self.old.rounds.entries q)) }
+        ensures err { OnErr result (self.new.rounds.entries ≡ self.old.rounds.entries) }
+    {
+        let last = later(last, self.last(mark));
+        self.put(mark, last)
+    }
+
+    /// The rounds with one entry more. A refused call leaves them.
+    pub fn raise(&mut self, entry: &Entry) -> Result<(), AllocError>
+        ensures ok { OnOk result ((q : _) → at self.new.rounds.entries q ≡ raised entry.now (at self.old.rounds.entries) q) }
+        ensures err { OnErr result ((q : _) → at self.new.rounds.entries q ≡ at self.old.rounds.entries q) }
+    {
+        let id = entry.id_mark();
+        let before = self.last(&id);
+        self.raise_one(&id, entry.last)?;
+        match self.raise_one(&entry.lease_mark(), entry.last) {
+            Ok(()) => Ok(()),
+            Err(refused) => {
+                self.put_back(&id, before);
+                Err(refused)
+            }
+        }
+    }
+}
+
+// The later of a round and one that may be there.
+fn later(last: u64, other: Option<u64>) -> u64
+    ensures { result ≡ later last other }
+{
+    match other {
+        Some(other) => last.max(other),
+        None => last,
+    }
+}
