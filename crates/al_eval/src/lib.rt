@@ -29,3 +29,5 @@ pub use tail::{Entry, Tail};
 mod genesis_tests;
 #[cfg(test)]
 mod step_tests;
+#[cfg(test)]
+mod tail_tests;
