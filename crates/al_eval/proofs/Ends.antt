@@ -11,7 +11,7 @@ use Rattle.al_txn.specs.declared.txn.Txn.{Txn}
 use Rattle.al_moves.specs.Moves.{then_do, AreChanges, change_of}
 use Rattle.al_moves.specs.Money.{money}
 use Rattle.al_eval.specs.declared.before.Before.{Before}
-use Rattle.al_eval.specs.declared.before.RoundDelta.{RoundDelta}
+use Rattle.al_deltas.specs.declared.delta.RoundDelta.{RoundDelta}
 use Rattle.al_eval.specs.declared.before.EvalRefusal.{EvalRefusal}
 use Rattle.al_eval.specs.declared.before.EvalRefusal.TheVariants as answer
 use Rattle.al_eval.specs.declared.tail.Entry.{Entry}

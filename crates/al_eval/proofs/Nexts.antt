@@ -16,7 +16,7 @@ use Rattle.al_rows.proofs.Keys.{keys_total, exact_keys}
 use Rattle.al_rows.proofs.Maps.{get-map_entries, find-lookup}
 use Rattle.al_rows.proofs.Sames.{row_true}
 use Rattle.al_rows.proofs.Views.{get-of_entries, get-bare, ranged-get, sorted}
-use Rattle.al_moves.specs.declared.change.Change.{Change}
+use Rattle.al_rows.specs.declared.change.Change.{Change}
 use Rattle.al_moves.specs.Moves.{AreChanges, change_of}
 use Rattle.al_moves.specs.Works.{at}
 use Rattle.al_moves.proofs.Overlays.{turned_at, same_key}

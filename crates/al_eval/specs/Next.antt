@@ -5,7 +5,7 @@ use Rattle.al_base.specs.declared.key.Key.{Key}
 use Rattle.al_rows.specs.declared.row.Row.{Row}
 use Rattle.al_rows.specs.declared.stored.Stored.{Stored}
 use Rattle.al_rows.specs.Finite.{or_below}
-use Rattle.al_moves.specs.declared.change.Change.{Change}
+use Rattle.al_rows.specs.declared.change.Change.{Change}
 use Rattle.al_moves.specs.Works.{at}
 
 -- what stands under a key that a block of this round changed

@@ -10,7 +10,8 @@ use Rattle.al_block.specs.declared.header.Header.{Header}
 use Rattle.al_block.specs.declared.header.Field.{Field}
 use Rattle.al_block.specs.declared.header.Field.TheVariants as field
 use Rattle.al_block.specs.declared.block.Block.{Block}
-use Rattle.al_block.specs.Hashes.{payset_hash_of, group_size}
+use Rattle.al_deltas.specs.declared.delta.RoundDelta.{RoundDelta}
+use Rattle.al_block.specs.Hashes.{header_hash_of, payset_hash_of, group_size}
 use Rattle.al_rows.specs.Rows.{RowMap, same_bytes}
 use Rattle.al_txn.specs.declared.body.Body.{Body}
 use Rattle.al_txn.specs.declared.body.Body.TheVariants as body
@@ -23,7 +24,6 @@ use Rattle.al_moves.specs.declared.rule.Rule.{Rule}
 use Rattle.al_moves.specs.Moves.{then_do, same_address, plain_rule, too_few, held_until as rule_until, moved, rekeyed, paid, checked, unless_refused, change_of, AreChanges}
 use Rattle.al_moves.specs.Works.{Worked, IsFixed}
 use Rattle.al_eval.specs.declared.before.Before.{Before}
-use Rattle.al_eval.specs.declared.before.RoundDelta.{RoundDelta}
 use Rattle.al_eval.specs.declared.before.EvalRefusal.{EvalRefusal}
 use Rattle.al_eval.specs.declared.before.EvalRefusal.TheVariants as answer
 use Rattle.al_eval.specs.declared.tail.Entry.{Entry}
@@ -231,3 +231,9 @@ Evals due old (Err (answer.Broken p r)) = due ≡ Err (broken p r)
 Evals due old (Err (answer.Header f)) = due ≡ Err (header f)
 Evals due old (Err (answer.View f)) = ⊤
 Evals due old (Err answer.Memory) = ⊤
+
+-- what a block changes goes with its header. Creators and online data change with stages to come
+pub record IsDeltaOf (h : Header) (d : RoundDelta) : Type 0 where
+  pub round : d.round ≡ h.round
+  pub header : d.header ≡ h
+  pub hash : d.hash ≡ header_hash_of h

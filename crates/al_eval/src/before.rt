@@ -1,7 +1,8 @@
 //! What a step begins with, and what it answers.
 use al_base::Hash;
 use al_block::{Field, Header};
-use al_moves::{Changes, Rule};
+use al_moves::Rule;
+use al_rewards::Totals;
 use al_txn::Chain;
 
 /// What a step knows of the state before, beside its rows and transactions.
@@ -13,15 +14,8 @@ pub struct Before {
     pub header: Header,
     /// The hash of that header.
     pub hash: Hash,
-}
-
-/// What a block changes.
-#[derive(Debug, Drop)]
-pub struct RoundDelta {
-    /// The block's round.
-    pub round: u64,
-    /// The rows that differ from before the block, in the order of keys.
-    pub changes: Changes,
+    /// The money and units of all accounts after that block.
+    pub totals: Totals,
 }
 
 /// Why a block is refused, or could not be judged.

@@ -17,7 +17,7 @@ mod start;
 mod tail;
 mod transact;
 
-pub use before::{Before, EvalRefusal, RoundDelta};
+pub use before::{Before, EvalRefusal};
 pub use genesis::{Genesis, GenesisFault, GenesisRow, GenesisRows};
 pub use laws::{changes_lead, step_is_fair};
 pub use next::step_rows;

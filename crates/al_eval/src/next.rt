@@ -18,8 +18,7 @@ ghost use Rattle.al_eval.specs.State.{IsPay, Steps, step};
 use crate::{Before, EvalRefusal, Tail, eval};
 use al_base::Key;
 use al_block::Block;
-use al_moves::{Change, Changes};
-use al_rows::{Never, Stored, StoredView};
+use al_rows::{Change, Changes, Never, Stored, StoredView};
 use std::alloc::{AllocError, Global};
 use std::collections::BTreeMap;
 

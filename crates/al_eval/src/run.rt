@@ -1,17 +1,20 @@
 //! The step of a block over a view.
-ghost use Rattle.std.specs.Prelude.{◌≡◌, ◌+◌, true, IfOk, IfSome, OnOk, map, All, length};
+ghost use Rattle.std.specs.Prelude.{◌≡◌, ◌+◌, true, Ok, IfOk, IfSome, OnOk, map, All, length};
 ghost use Rattle.std.specs.List.Sorted.{IsStrictlySortedBy};
 ghost use Rattle.al_base.specs.Keys.{key_cmp};
 ghost use Rattle.al_rows.specs.Rows.{IsKept};
-ghost use Rattle.al_eval.specs.Steps.{Evals, IsCounted, Runs, block_rows, counter_fault, payset_fault, unless_fault};
+ghost use Rattle.al_eval.specs.Steps.{Evals, IsCounted, IsDeltaOf, Runs, block_rows, counter_fault, payset_fault, unless_fault};
 
 use crate::header::{header_fault, is_sum};
 use crate::lent::Lent;
 use crate::transact::all_items;
-use crate::{Before, EvalRefusal, RoundDelta, Tail};
-use al_block::{Block, Field, payset_hash};
+use crate::{Before, EvalRefusal, Tail};
+use al_base::{CreatorChanges, OnlineChanges};
+use al_block::{Block, Field, header_hash, payset_hash};
+use al_deltas::RoundDelta;
 use al_moves::Work;
-use al_rows::RowView;
+use al_rewards::Totals;
+use al_rows::{Changes, RowView};
 use std::alloc::{AllocError, Global};
 
 // Whether the header's digest of the payset is not what is due.
@@ -69,6 +72,28 @@ fn block_rows<V: RowView>(
     }
 }
 
+// What a block changes, with its header.
+fn delta_of(
+    alloc: Global,
+    block: &Block,
+    changes: Result<Changes, AllocError>,
+    totals: Totals,
+) -> Result<RoundDelta, AllocError>
+    ensures changes { IfOk result (λ d. changes ≡ Ok d.changes) }
+    ensures header { IfOk result (λ d. IsDeltaOf block.now.header d) }
+{
+    let header = block.header.copy(alloc)?;
+    Ok(RoundDelta {
+        round: header.round,
+        hash: header_hash(alloc, &header)?,
+        header,
+        changes: changes?,
+        creators: CreatorChanges::new(alloc),
+        totals,
+        online: OnlineChanges::new(alloc),
+    })
+}
+
 // The step over a view that is given back.
 fn eval_over<V: RowView>(
     alloc: Global,
@@ -84,7 +109,7 @@ fn eval_over<V: RowView>(
     ensures cause { IsCounted answer.new (V.failures view) (V.failures result) }
     ensures ordered { IfOk answer.new (λ d. IsStrictlySortedBy key_cmp (map (λ c. c.key) d.changes)) }
     ensures kept { IfOk answer.new (λ d. All (λ c. IfSome c.row (IsKept c.key)) d.changes) }
-    ensures round { IfOk answer.new (λ d. d.round ≡ block.now.header.round) }
+    ensures header { IfOk answer.new (IsDeltaOf block.now.header) }
     ensures next { IfOk answer.new (λ d. d.round ≡ before.now.header.round + 1) }
 {
     let header = &block.header;
@@ -99,11 +124,8 @@ fn eval_over<V: RowView>(
     let (changes, view) = work.end();
     *answer = match run {
         Err(refusal) => Err(refusal),
-        Ok(()) => match changes {
-            Ok(changes) => Ok(RoundDelta {
-                round: header.round,
-                changes,
-            }),
+        Ok(()) => match delta_of(alloc, block, changes, before.totals) {
+            Ok(delta) => Ok(delta),
             Err(_) => Err(EvalRefusal::Memory),
         },
     };
@@ -128,7 +150,7 @@ pub fn eval<V: RowView>(
     ensures same { V.tells ≡ true → V.rows view.new ≡ V.rows view.old }
     ensures ordered { IfOk result (λ d. IsStrictlySortedBy key_cmp (map (λ c. c.key) d.changes)) }
     ensures kept { IfOk result (λ d. All (λ c. IfSome c.row (IsKept c.key)) d.changes) }
-    ensures round { IfOk result (λ d. d.round ≡ block.now.header.round) }
+    ensures header { IfOk result (IsDeltaOf block.now.header) }
     ensures next { IfOk result (λ d. d.round ≡ before.now.header.round + 1) }
 {
     let mut answer = Err(EvalRefusal::Memory);

@@ -13,7 +13,7 @@ use Rattle.al_rows.specs.Rows.{RowMap, IsKept, same_row}
 use Rattle.al_rows.proofs.Sames.{same_itself}
 use Rattle.al_rows.proofs.Keys.{keys_total, exact_keys}
 use Rattle.al_rows.proofs.Maps.{find-lookup}
-use Rattle.al_moves.specs.declared.change.Change.{Change}
+use Rattle.al_rows.specs.declared.change.Change.{Change}
 use Rattle.al_moves.specs.Moves.{differing, change_of, AreChanges}
 use Rattle.al_moves.specs.Works.{at, now_at, IsWork}
 use Rattle.al_moves.proofs.Overlays.{get-now}

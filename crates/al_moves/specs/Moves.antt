@@ -21,7 +21,7 @@ use Rattle.al_rows.specs.Finite.{set_at, or_below, first_some}
 use Rattle.al_rows.specs.Rows.{RowMap, same_bytes, no_address, min_balance, account, account_in, set_account, same_row}
 use Rattle.al_txn.specs.declared.body.Pay.{Pay}
 use Rattle.al_moves.specs.declared.rule.Rule.{Rule}
-use Rattle.al_moves.specs.declared.change.Change.{Change}
+use Rattle.al_rows.specs.declared.change.Change.{Change}
 
 -- the second step, where the first was not refused
 abbrev pub then_do : {A B E : Type 0} → Result A E → (A → Result B E) → Result B E

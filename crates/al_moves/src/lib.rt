@@ -1,13 +1,12 @@
 //! Moves of algos over changed rows.
 #![tactic(auto)]
 
-mod change;
 mod laws;
 mod minimum;
 mod rule;
 mod work;
 
-pub use change::{Change, Changes};
+pub use al_rows::{Change, Changes};
 pub use laws::{moves_are_fair, rise_is_earned};
 pub use rule::{Rule, Stop};
 pub use work::Work;

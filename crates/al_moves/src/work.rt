@@ -12,10 +12,10 @@ ghost use Rattle.al_moves.specs.Moves.{AreChanges, change_of, checked, closed, c
 ghost use Rattle.al_moves.specs.Works.{Does, IsNoRule, IsWork, Looks, at, nonzero, now_at};
 
 use crate::minimum::{earned, first_shortfall};
-use crate::{Change, Changes, Rule, Stop};
+use crate::{Rule, Stop};
 use al_base::{Address, Key, Special, Status};
 use al_rewards::MAX_BALANCE;
-use al_rows::{AccountRow, Row, RowView, ViewFault, account_in, copy_row, same_row};
+use al_rows::{AccountRow, Change, Changes, Row, RowView, ViewFault, account_in, copy_row, same_row};
 use al_txn::Pay;
 use std::alloc::{AllocError, Global};
 use std::collections::BTreeMap;

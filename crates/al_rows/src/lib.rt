@@ -2,6 +2,7 @@
 #![tactic(auto)]
 
 mod account;
+mod change;
 mod row;
 mod stored;
 #[cfg(test)]
@@ -9,6 +10,7 @@ mod tests;
 mod view;
 
 pub use account::{AccountRow, account_in};
+pub use change::{Change, Changes};
 pub use row::{AppParams, AppRow, AssetRow, BoxRow, Holding, Local, Row, copy_row, same_row};
 pub use stored::{Keyed, Rows, Stored};
 pub use view::{MapView, Never, RowView, StoredView, ViewFault};

@@ -1,6 +1,6 @@
 //! What a block changes.
+use crate::Row;
 use al_base::Key;
-use al_rows::Row;
 use sqlite_items::Items;
 
 /// What the row under a key is after a block, where it differs from before.

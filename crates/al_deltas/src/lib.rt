@@ -1,0 +1,6 @@
+//! What each block changes.
+#![tactic(auto)]
+
+mod delta;
+
+pub use delta::RoundDelta;
