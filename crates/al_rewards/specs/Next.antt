@@ -1,5 +1,5 @@
 -- The rewards of the next block by the Algorand ledger specification, section on rewards: the pool gives a rate each round to all units together, and what does not divide by them is left over for the next round.
-use Rattle.std.specs.Prelude.{ℕ, ◌+◌, ◌-◌, ◌/◌, ◌%◌, ◌^◌, Bool, not, ◌&&◌, nat_eq, nat_lt, if◌then◌else◌}
+use Rattle.std.specs.Prelude.{ℕ, ◌+◌, ◌-◌, ◌/◌, ◌%◌, ◌^◌, Bool, not, ◌&&◌, nat_eq, nat_lt, Option, Some, None, if◌then◌else◌}
 use Rattle.al_rewards.specs.declared.state.RewardsState.{RewardsState}
 
 -- the microAlgos that the pool keeps
@@ -20,6 +20,10 @@ fund s round interval pool = rate_due s round interval pool + s.residue
 -- it is given where there are units, and neither sum passes a number of 64 bits
 abbrev pub gives : ℕ → ℕ → ℕ → Bool
 gives level fund units = not (nat_eq units 0) && (nat_lt fund (2 ^ 64) && nat_lt (level + fund / units) (2 ^ 64))
+
+-- the level and what is left over where it is given
+abbrev pub given : ℕ → ℕ → ℕ → Option (ℕ × ℕ)
+given level fund units = if gives level fund units then Some (level + fund / units, fund % units) else None
 
 -- the rewards of a round, by the pool's balance and all units before it
 unfoldable pub next_rewards : RewardsState → ℕ → ℕ → ℕ → ℕ → RewardsState

@@ -1,5 +1,5 @@
 -- What accounts have together by the Algorand ledger specification: their money with pending rewards, and their units, by status.
-use Rattle.std.specs.Prelude.{ℕ, ◌+◌, ◌-◌, ◌*◌, ◌/◌, ◌^◌, ◌<◌}
+use Rattle.std.specs.Prelude.{ℕ, ◌+◌, ◌-◌, ◌*◌, ◌/◌, ◌^◌, ◌<◌, min}
 use Rattle.std.specs.declared.option.Option.{Option}
 use Rattle.std.specs.declared.option.Option.TheVariants.{None, Some}
 use Rattle.al_base.specs.declared.account.Status.{Status}
@@ -52,3 +52,32 @@ earn rise c = record c { money = c.money + c.units * rise }
 -- the totals of the same accounts at a level, where each that earns has been counted exactly
 abbrev pub raised : ℕ → Totals → Totals
 raised level t = record t { level = level; online = earn (level - t.level) t.online; offline = earn (level - t.level) t.offline }
+
+-- ---- where a number would pass 64 bits
+
+-- the number, or the greatest of 64 bits
+abbrev pub capped : ℕ → ℕ
+capped n = min n (2 ^ 64 - 1)
+
+abbrev pub capped_count : Count → Count
+capped_count c = record { money = capped c.money; units = capped c.units }
+
+abbrev pub capped_totals : Totals → Totals
+capped_totals t = record t { online = capped_count t.online; offline = capped_count t.offline; apart = capped_count t.apart }
+
+-- ---- an account less
+
+-- a count without another; what would fall below 0 is 0
+abbrev pub minus : Count → Count → Count
+minus c d = record { money = c.money - d.money; units = c.units - d.units }
+
+-- totals with a count less among those of a status
+abbrev pub without_count : Totals → Status → Count → Totals
+without_count t Online c = record t { online = minus t.online c }
+without_count t Offline c = record t { offline = minus t.offline c }
+without_count t NotParticipating c = record t { apart = minus t.apart c }
+
+-- totals with an account less, or none
+abbrev pub without_share : Totals → Option Share → Totals
+without_share t None = t
+without_share t (Some s) = without_count t s.status (count_of t.level s)
