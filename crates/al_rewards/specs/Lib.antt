@@ -1,3 +1,4 @@
 pub mod Next
 pub mod Pending
 pub mod Totals
+pub mod Record

@@ -7,7 +7,9 @@ mod state;
 #[cfg(test)]
 mod tests;
 mod totals;
+mod totals_record;
 
 pub use share::{MAX_BALANCE, Share, pending};
 pub use state::RewardsState;
 pub use totals::{Count, Totals};
+pub use totals_record::{encode_totals, totals_laws};

@@ -1,0 +1,98 @@
+//! The record of totals.
+ghost use Rattle.std.specs.Prelude.{◌≡◌, ◌++◌, ℕ, List, IfOk, OnErr, OnOk};
+ghost use Rattle.al_msgpack.specs.declared.val.Val.TheVariants as values;
+ghost use Rattle.al_msgpack.specs.Spelled.{spelled};
+ghost use Rattle.al_rewards.specs.Record.{SpellsOneTotals, SpellsTotals, totals};
+
+use crate::{Count, Totals};
+use al_msgpack::{Entries, Entry, Val, write};
+use al_record::{Column, Content, ReadError, Record, Shape, check, listed, number};
+use std::alloc::{AllocError, Global};
+
+/// Money and units of the accounts that are offline, the level, and the same of those that are
+/// online and of those that do not participate.
+const TOTALS: [Column; 7] = [
+    Column("fm", Shape::Number),
+    Column("fu", Shape::Number),
+    Column("l", Shape::Number),
+    Column("nm", Shape::Number),
+    Column("nu", Shape::Number),
+    Column("pm", Shape::Number),
+    Column("pu", Shape::Number),
+];
+
+impl Record for Totals {
+    ghost use Rattle.al_rewards.specs.Record.{totals};
+
+    ghost format = { totals };
+
+    fn read(alloc: Global, entries: &[Entry]) -> Result<Totals, ReadError> {
+        check(alloc, entries, &TOTALS)?;
+        Ok(Totals {
+            level: number(entries, "l"),
+            online: Count {
+                money: number(entries, "nm"),
+                units: number(entries, "nu"),
+            },
+            offline: Count {
+                money: number(entries, "fm"),
+                units: number(entries, "fu"),
+            },
+            apart: Count {
+                money: number(entries, "pm"),
+                units: number(entries, "pu"),
+            },
+        })
+    }
+
+    fn entries(&self, alloc: Global) -> Result<Entries, AllocError> {
+        listed(
+            alloc,
+            &TOTALS,
+            &[
+                Content::Number(self.offline.money),
+                Content::Number(self.offline.units),
+                Content::Number(self.level),
+                Content::Number(self.online.money),
+                Content::Number(self.online.units),
+                Content::Number(self.apart.money),
+                Content::Number(self.apart.units),
+            ],
+        )
+    }
+}
+
+/// Appends the spelling of the totals' record, which has the fields `fm` and `fu` (money and units
+/// of the accounts that are offline), `l` (the level), `nm` and `nu` (online), `pm` and `pu` (not
+/// participating), each exactly where it is not zero. Nothing is appended where memory is short.
+pub fn encode_totals(alloc: Global, t: &Totals, out: &mut Vec<u8>) -> Result<(), AllocError>
+    ensures bytes { OnOk result (out.new.items ≡ out.old.items ++ spelled (values.Map (totals.write t.now))) }
+    ensures back { (input : List ℕ) → SpellsTotals t.now input → OnOk result (out.new.items ≡ out.old.items ++ input) }
+    ensures spells { SpellsTotals t.now (spelled (values.Map (totals.write t.now))) }
+    ensures err { OnErr result (out.new.items ≡ out.old.items) }
+{
+    append(alloc, *t, out)
+}
+
+fn append(alloc: Global, t: Totals, out: &mut Vec<u8>) -> Result<(), AllocError>
+    ensures bytes { OnOk result (out.new.items ≡ out.old.items ++ spelled (values.Map (totals.write t))) }
+    ensures spells { SpellsTotals t (spelled (values.Map (totals.write t))) }
+    ensures err { OnErr result (out.new.items ≡ out.old.items) }
+{
+    let bytes = spelling(alloc, &t)?;
+    out.extend_from_slice(&bytes)
+}
+
+// The spelling of the record.
+fn spelling(alloc: Global, t: &Totals) -> Result<Vec<u8>, AllocError>
+    ensures { IfOk result (λ bytes. bytes.items ≡ spelled (values.Map (totals.write t.now))) }
+{
+    let mut bytes = Vec::new(alloc);
+    write(&Val::Map(t.entries(alloc)?), &mut bytes)?;
+    Ok(bytes)
+}
+
+/// Bytes spell the record of at most one value of totals.
+pub fn totals_laws()
+    ensures once { SpellsOneTotals }
+{}
