@@ -61,9 +61,7 @@ impl RewardsState {
         if round != self.recalc {
             return self.rate;
         }
-        pool.saturating_sub(LEAST_POOL)
-            .saturating_sub(self.residue)
-            / interval
+        pool.saturating_sub(LEAST_POOL).saturating_sub(self.residue) / interval
     }
 
     // The round at which the rate is computed anew, seen after a round.
