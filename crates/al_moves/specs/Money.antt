@@ -5,14 +5,18 @@ use Rattle.std.specs.FinMap.{get}
 use Rattle.std.specs.declared.result.Result.{Result}
 use Rattle.std.specs.declared.result.Result.TheVariants.{Ok, Err}
 use Rattle.al_base.specs.declared.account.Special.{Special}
+use Rattle.al_base.specs.declared.account.Status.{Status}
+use Rattle.al_base.specs.declared.account.Status.TheVariants.{Offline, Online, NotParticipating}
 use Rattle.al_base.specs.declared.address.Address.{Address}
 use Rattle.al_base.specs.declared.key.Key.{Key}
 use Rattle.al_rewards.specs.Pending.{is_apart, max_balance}
+use Rattle.al_rewards.specs.declared.totals.Count.{Count}
+use Rattle.al_rewards.specs.declared.totals.Totals.{Totals}
 use Rattle.al_rows.specs.declared.account.AccountRow.{AccountRow}
 use Rattle.al_rows.specs.declared.row.Row.{Row}
 use Rattle.al_rows.specs.declared.row.Row.TheVariants as row
 use Rattle.al_rows.specs.Finite.{total}
-use Rattle.al_rows.specs.Rows.{RowMap}
+use Rattle.al_rows.specs.Rows.{RowMap, same_status}
 use Rattle.al_txn.specs.declared.body.Pay.{Pay}
 use Rattle.al_moves.specs.declared.rule.Rule.{Rule}
 use Rattle.al_moves.specs.Moves.{moved, paid, rekeyed, checked, earned}
@@ -54,3 +58,26 @@ units (row.Box b) = 0
 abbrev pub RiseIsEarned : Type 0
 RiseIsEarned = (level rise : ℕ) (m : RowMap) → ((k : Key) (r : AccountRow) → get m k ≡ Some (row.Account r) → IsExact level rise r)
     → money (level + rise) m ≡ money level m + rise * total (λ k r. units r) m
+
+-- ---- by status
+
+-- what a row has as money, and as units, of accounts of a status
+abbrev pub money_at : ℕ → Status → Row → ℕ
+money_at level status (row.Account r) = if same_status r.status status then worth level (row.Account r) else 0
+money_at level status (row.Asset a) = 0
+money_at level status (row.App a) = 0
+money_at level status (row.Box b) = 0
+
+abbrev pub units_at : Status → Row → ℕ
+units_at status (row.Account r) = if same_status r.status status then r.balance / 1000000 else 0
+units_at status (row.Asset a) = 0
+units_at status (row.App a) = 0
+units_at status (row.Box b) = 0
+
+-- what all accounts of a status have together at a level, added up over all rows
+abbrev pub count : ℕ → Status → RowMap → Count
+count level status m = record { money = total (λ k r. money_at level status r) m; units = total (λ k r. units_at status r) m }
+
+-- the same of every status
+unfoldable pub counts : ℕ → RowMap → Totals
+counts level m = record { level = level; online = count level Online m; offline = count level Offline m; apart = count level NotParticipating m }
