@@ -33,7 +33,7 @@ abbrev pub begun : Before → BTreeMap Key Stored → List Txn → State
 begun s rows past = record { chain = s.chain; header = s.header; rows = from_entries rows.entries; past = past }
 
 unfoldable with_hash : Before → List ℕ → Before
-with_hash s h = record { chain = s.chain; header = s.header; hash = h }
+with_hash s h = record s { hash = h }
 
 -- the rows that are due, of the state
 due_is : (s : Before) (tail : List Entry) (b : Block) (rows : BTreeMap Key Stored) (old : RowMap) (past : List Txn) → s.hash ≡ header_hash_of s.header → old ≡ bare (from_entries rows.entries) → tail ≡ map entry_of past

@@ -27,7 +27,13 @@ use Rattle.al_eval.specs.declared.genesis.GenesisRow.{GenesisRow}
 use Rattle.al_eval.specs.declared.genesis.Genesis.{Genesis}
 use Rattle.al_eval.specs.Genesis.{IsGenesis, first_row, money_of}
 use Rattle.al_eval.specs.Next.{stored_at}
-use Rattle.al_eval.specs.Start.{with_account, with_accounts}
+use Rattle.al_eval.specs.Start.{with_account, with_accounts, and_accounts, start_totals}
+use Rattle.al_base.specs.declared.account.Status.{Status}
+use Rattle.al_base.specs.declared.account.Status.TheVariants.{Offline, Online, NotParticipating}
+use Rattle.al_moves.specs.Moves.{share_of}
+use Rattle.al_rewards.specs.declared.totals.Count.{Count}
+use Rattle.al_rewards.specs.declared.totals.Totals.{Totals}
+use Rattle.al_rewards.specs.Totals.{AreTotals, IsCount, and_count, and_share, count_of, plus}
 
 -- to put what stands under a key is to set it
 pub put_sets : (old new : BTreeMap Key Stored) (k : Key) (v : Option Stored) → ((q : Key) → at new.entries q ≡ cond (is_at (key_cmp k) q) v (at old.entries q)) → from_entries {R = key_cmp} new.entries ≡ set_at (from_entries old.entries) k v
@@ -96,3 +102,27 @@ ranged_all (a ∷ accounts) h =
 pub genesis_ranged : (input : List ℕ) (g : Genesis) → IsGenesis input g → All (λ a. AccountInRange a.row) g.accounts
 genesis_ranged input g is =
     subst (All (λ (a : GenesisRow). AccountInRange a.row)) (sym is.says.accounts) (All-from_recursion (λ (r : GenesisRow). AccountInRange r.row) (map first_row is.fields.accounts) (ranged_all is.fields.accounts is.good.1))
+
+-- ---- what the accounts have together
+
+count_less : (c d : Count) → IsCount (plus c d) → IsCount c
+count_less c d h = (omega (arith, h.0), omega (arith, h.1))
+
+fits_count : (t : Totals) (status : Status) (c : Count) → AreTotals (and_count t status c) → AreTotals t
+fits_count t Online c h = (count_less t.online c h.0, h.1, h.2)
+fits_count t Offline c h = (h.0, count_less t.offline c h.1, h.2)
+fits_count t NotParticipating c h = (h.0, h.1, count_less t.apart c h.2)
+
+-- where the totals of all accounts fit, those of a front do
+fits_front : (t : Totals) (xs : List GenesisRow) → AreTotals (and_accounts t xs) → AreTotals t
+fits_front t [] h = h
+fits_front t (a ∷ more) h = fits_count t a.row.status (count_of t.level (share_of a.row)) (fits_front (and_share t (Some (share_of a.row))) more h)
+
+-- one account more
+pub next_totals : (t new : Totals) (xs : List GenesisRow) (i : ℕ) (d : GenesisRow) → i < length xs → (AreTotals (start_totals xs) → and_accounts t (drop i xs) ≡ start_totals xs) → (AreTotals (and_share t (Some (share_of (get_or xs i d).row))) → new ≡ and_share t (Some (share_of (get_or xs i d).row)))
+    → AreTotals (start_totals xs) → and_accounts new (drop (suc i) xs) ≡ start_totals xs
+next_totals t new xs i d within before one fits =
+    let a = get_or xs i d in
+    let e : and_accounts t (a ∷ drop (suc i) xs) ≡ start_totals xs = ap (and_accounts t) (sym (drop-cons xs i d within)) ∙ before fits in
+    let all : AreTotals (and_accounts (and_share t (Some (share_of a.row))) (drop (suc i) xs)) = subst AreTotals (sym e) fits in
+    ap (λ u. and_accounts u (drop (suc i) xs)) (one (fits_front (and_share t (Some (share_of a.row))) (drop (suc i) xs) all)) ∙ e

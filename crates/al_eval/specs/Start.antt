@@ -4,6 +4,10 @@ use Rattle.std.specs.declared.option.Option.{Option}
 use Rattle.std.specs.FinMap.{FinMap, from_entries}
 use Rattle.al_base.specs.declared.key.Key.TheVariants.{Account}
 use Rattle.al_base.specs.Keys.{key_cmp}
+use Rattle.std.specs.declared.option.Option.TheVariants.{Some}
+use Rattle.al_moves.specs.Moves.{share_of}
+use Rattle.al_rewards.specs.declared.totals.Totals.{Totals}
+use Rattle.al_rewards.specs.Totals.{and_share, no_totals}
 use Rattle.al_rows.specs.declared.row.Row.TheVariants as row
 use Rattle.al_rows.specs.declared.stored.Stored.{Stored}
 use Rattle.al_rows.specs.Finite.{set_at}
@@ -24,6 +28,15 @@ with_accounts m (a ∷ more) = with_accounts (with_account m a) more
 
 abbrev pub start_rows : List GenesisRow → FinMap key_cmp Stored
 start_rows accounts = with_accounts (from_entries []) accounts
+
+-- totals with those of accounts more
+abbrev pub and_accounts : Totals → List GenesisRow → Totals
+and_accounts t [] = t
+and_accounts t (a ∷ more) = and_accounts (and_share t (Some (share_of a.row))) more
+
+-- what the accounts have together in round 0
+abbrev pub start_totals : List GenesisRow → Totals
+start_totals accounts = and_accounts (no_totals 0) accounts
 
 -- the state of round 0
 abbrev pub start : Genesis → State

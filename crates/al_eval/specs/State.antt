@@ -16,13 +16,14 @@ use Rattle.al_rows.specs.declared.stored.Stored.{Stored}
 use Rattle.al_rows.specs.Finite.{map_entries, overlaid}
 use Rattle.al_rows.specs.Rows.{RowMap, bare, row_eq}
 use Rattle.al_rewards.specs.Pending.{max_balance}
+use Rattle.al_rewards.specs.declared.totals.Totals.{Totals}
 use Rattle.al_txn.specs.declared.body.Body.{Body}
 use Rattle.al_txn.specs.declared.body.Body.TheVariants as body
 use Rattle.al_txn.specs.declared.chain.Chain.{Chain}
 use Rattle.al_txn.specs.declared.txn.Txn.{Txn}
 use Rattle.al_moves.specs.declared.rule.Rule.{Rule}
 use Rattle.al_moves.specs.Moves.{then_do, AreChanges}
-use Rattle.al_moves.specs.Money.{money}
+use Rattle.al_moves.specs.Money.{money, counts}
 use Rattle.al_eval.specs.declared.before.Before.{Before}
 use Rattle.al_eval.specs.declared.before.EvalRefusal.{EvalRefusal}
 use Rattle.al_eval.specs.declared.before.EvalRefusal.TheVariants as answer
@@ -36,8 +37,12 @@ pub record State : Type 0 where
   pub rows : FinMap key_cmp Stored
   pub past : List Txn
 
+-- the money and the units of all accounts, added up over all rows at the level of the last block
+abbrev pub counts_in : State → Totals
+counts_in s = counts s.header.level (bare s.rows)
+
 abbrev pub before_of : State → Before
-before_of s = record { chain = s.chain; header = s.header; hash = header_hash_of s.header }
+before_of s = record { chain = s.chain; header = s.header; hash = header_hash_of s.header; totals = counts_in s }
 
 -- the round of the last block after which the row differed from before that block
 abbrev pub stamp : ℕ → Option Stored → Row → ℕ

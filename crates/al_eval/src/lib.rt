@@ -22,7 +22,7 @@ pub use genesis::{Genesis, GenesisFault, GenesisRow, GenesisRows};
 pub use laws::{changes_lead, step_is_fair};
 pub use next::step_rows;
 pub use run::eval;
-pub use start::start_rows;
+pub use start::{start_rows, start_totals};
 pub use tail::{Entry, Tail};
 
 #[cfg(test)]

@@ -8,11 +8,14 @@ ghost use Rattle.al_moves.specs.Works.{at};
 ghost use Rattle.al_rows.specs.Rows.{AccountInRange, IsKept, unless_zero};
 ghost use Rattle.al_rows.specs.declared.row.Row.TheVariants as row;
 ghost use Rattle.al_eval.specs.Next.{stored_at};
-ghost use Rattle.al_eval.specs.Start.{start_rows};
+ghost use Rattle.al_rewards.specs.Totals.{AreTotals};
+ghost use Rattle.al_eval.specs.Start.{start_rows, start_totals};
 
 use crate::genesis::GenesisRow;
 use crate::next::{put, take_away};
 use al_base::Key;
+use al_moves::share_of;
+use al_rewards::Totals;
 use al_rows::{Row, Stored};
 use std::alloc::{AllocError, Global};
 use std::collections::BTreeMap;
@@ -46,4 +49,16 @@ pub fn start_rows(
     }
     let _count = rows.len();
     Ok(rows)
+}
+
+/// What the accounts have together in round 0. Each number stops at 2^64 - 1, which those of a
+/// genesis do not reach.
+pub fn start_totals(accounts: &[GenesisRow]) -> Totals
+    ensures { AreTotals (start_totals accounts.now) → result ≡ start_totals accounts.now }
+{
+    let mut totals = Totals::new(0);
+    for account in accounts {
+        totals.change(None, Some(&share_of(&account.row)));
+    }
+    totals
 }

@@ -6,6 +6,7 @@ use super::*;
 use crate::genesis_tests::OTHER;
 use al_base::{Address, Hash, Key, Status};
 use al_block::{decode_block, header_hash};
+use al_rewards::Count;
 use al_rows::{AccountRow, Row, Stored};
 use al_txn::{Body, Item};
 use std::collections::BTreeMap;
@@ -75,7 +76,10 @@ fn a_payment_is_applied_once(rt: HostRuntime) -> Result<(), Fail> {
         chain: genesis.chain,
         header: genesis.header,
         hash,
+        totals: start_totals(&accounts),
     };
+    assert_eq!(rt; before.totals.offline, Count { money: 2_500_000, units: 2 });
+    assert_eq!(rt; before.totals.apart, Count { money: 100_000, units: 0 });
     let mut tail = Tail::new(rt.alloc());
     let next = step_rows(rt.alloc(), &rows, &before, &tail, &block)
         .ok()

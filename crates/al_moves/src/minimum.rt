@@ -4,7 +4,7 @@ ghost use Rattle.std.specs.BTreeMap.{IsOrdered};
 ghost use Rattle.al_base.specs.Keys.{key_cmp};
 ghost use Rattle.al_rows.specs.Finite.{first_some};
 ghost use Rattle.al_rows.specs.Rows.{AccountInRange, InRange, IsKept};
-ghost use Rattle.al_moves.specs.Moves.{earned, lacking, shortfall};
+ghost use Rattle.al_moves.specs.Moves.{earned, lacking, share_of, shortfall};
 ghost use Rattle.al_moves.specs.Works.{at, now_at};
 
 use crate::Rule;
@@ -13,17 +13,23 @@ use al_rewards::{Share, pending};
 use al_rows::{AccountRow, Row, account_in, same_row};
 use std::collections::BTreeMap;
 
+/// What the rewards of an account depend on.
+pub fn share_of(r: &AccountRow) -> Share
+    ensures { result ≡ share_of r.now }
+{
+    Share {
+        status: r.status,
+        balance: r.balance,
+        base: r.base,
+    }
+}
+
 // The rewards of an account that are not yet in its balance.
 pub fn earned(level: u64, r: &AccountRow) -> u64
     ensures value { result ≡ earned level r.now }
     ensures most { result ≤ 10000000000000000 }
 {
-    let share = Share {
-        status: r.status,
-        balance: r.balance,
-        base: r.base,
-    };
-    pending(&share, level)
+    pending(&share_of(r), level)
 }
 
 // What an account lacks.

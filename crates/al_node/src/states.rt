@@ -21,7 +21,7 @@ use crate::replies::{
 };
 use al_base::{Address, Key};
 use al_block::{Block, Header, decode_block, header_hash};
-use al_eval::{Before, Genesis, GenesisFault, Tail, start_rows, step_rows};
+use al_eval::{Before, Genesis, GenesisFault, Tail, start_rows, start_totals, step_rows};
 use al_http::{Answer, Request};
 use al_rows::Stored;
 use std::alloc::{AllocError, Global};
@@ -95,6 +95,7 @@ impl States {
         let first = genesis.header.copy(alloc)?;
         let hash = header_hash(alloc, &first)?;
         let rows = start_rows(alloc, genesis.accounts.as_slice())?;
+        let totals = start_totals(genesis.accounts.as_slice());
         Ok(States {
             alloc,
             first,
@@ -104,6 +105,7 @@ impl States {
                 chain: genesis.chain,
                 header: genesis.header,
                 hash,
+                totals,
             },
             tail: Tail::new(alloc),
         })
