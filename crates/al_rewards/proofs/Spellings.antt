@@ -1,5 +1,5 @@
 -- The spellings of totals.
-use Rattle.std.proofs.Common.{◌≡◌, ℕ, List, ◌++◌, ◌<◌, ◌^◌, length, OnOk, None, Result, refl, sym, ap, subst, ◌∙◌, rules, arith}
+use Rattle.std.proofs.Common.{◌≡◌, ℕ, List, ◌++◌, ◌<◌, ◌^◌, OnOk, Result, refl, sym, ap, subst, ◌∙◌, rules, arith}
 use Rattle.std.specs.List.{AllByRecursion}
 use Rattle.al_msgpack.specs.declared.val.Val.{Val, out-Val}
 use Rattle.al_msgpack.specs.declared.val.Val.TheVariants as values

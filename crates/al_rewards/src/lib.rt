@@ -1,5 +1,9 @@
-//! Rewards: what the pool pays, what an account has earned and not yet been given, and what all
-//! accounts have together.
+//! Rewards by the Algorand ledger specification. A unit is a whole Algo of a balance.
+//!
+//! [`RewardsState::next`] moves the reward level, by which each unit earns what the pool pays.
+//! [`pending`] is what one account has earned and not yet been given. [`Totals`] are the money and
+//! the units of all accounts: [`Totals::raise`] follows the level, [`Totals::change`] an account,
+//! and [`encode_totals`] spells them, in one way ([`totals_laws`]).
 #![tactic(auto)]
 
 mod share;
