@@ -17,7 +17,7 @@ use Rattle.al_eval.specs.declared.before.EvalRefusal.TheVariants as answer
 use Rattle.al_eval.specs.declared.tail.Entry.{Entry}
 use Rattle.al_eval.specs.Past.{entry_of}
 use Rattle.al_eval.specs.Next.{IsNext}
-use Rattle.al_eval.specs.Steps.{Refusal, Gives, Evals, block_rows}
+use Rattle.al_eval.specs.Steps.{Refusal, Gives, Evals, block_rows, header_checks, rewards_checks}
 use Rattle.al_eval.specs.State.{State, Steps, after, step, stamped}
 use Rattle.al_eval.proofs.Nexts.{next_is}
 use Rattle.al_eval.proofs.Chains.{bare_stamped, block_keeps}
@@ -38,7 +38,7 @@ with_hash s h = record s { hash = h }
 -- the rows that are due, of the state
 due_is : (s : Before) (tail : List Entry) (b : Block) (rows : BTreeMap Key Stored) (old : RowMap) (past : List Txn) → s.hash ≡ header_hash_of s.header → old ≡ bare (from_entries rows.entries) → tail ≡ map entry_of past
     → step (begun s rows past) b ≡ then_do (block_rows s tail b old) (λ m. Ok (after (begun s rows past) b m))
-unfolding step with_hash
+unfolding step with_hash block_rows header_checks rewards_checks
 due_is s tail b rows old past hash told entries =
     ap (λ d. then_do d (λ m. Ok (after (begun s rows past) b m)))
     (sym (ap (λ h. block_rows (with_hash s h) tail b old) hash ∙ ap₂ (λ (es : List Entry) (m : RowMap). block_rows (with_hash s (header_hash_of s.header)) es b m) entries told))

@@ -120,9 +120,10 @@ fits_front t (a ∷ more) h = fits_count t a.row.status (count_of t.level (share
 
 -- one account more
 pub next_totals : (t new : Totals) (xs : List GenesisRow) (i : ℕ) (d : GenesisRow) → i < length xs → (AreTotals (start_totals xs) → and_accounts t (drop i xs) ≡ start_totals xs) → (AreTotals (and_share t (Some (share_of (get_or xs i d).row))) → new ≡ and_share t (Some (share_of (get_or xs i d).row)))
-    → AreTotals (start_totals xs) → and_accounts new (drop (suc i) xs) ≡ start_totals xs
+    → AreTotals (start_totals xs) → and_accounts new (drop (i + 1) xs) ≡ start_totals xs
 next_totals t new xs i d within before one fits =
     let a = get_or xs i d in
     let e : and_accounts t (a ∷ drop (suc i) xs) ≡ start_totals xs = ap (and_accounts t) (sym (drop-cons xs i d within)) ∙ before fits in
     let all : AreTotals (and_accounts (and_share t (Some (share_of a.row))) (drop (suc i) xs)) = subst AreTotals (sym e) fits in
-    ap (λ u. and_accounts u (drop (suc i) xs)) (one (fits_front (and_share t (Some (share_of a.row))) (drop (suc i) xs) all)) ∙ e
+    let next : suc i ≡ i + 1 = omega arith in
+    ap (λ j. and_accounts new (drop j xs)) (sym next) ∙ ap (λ u. and_accounts u (drop (suc i) xs)) (one (fits_front (and_share t (Some (share_of a.row))) (drop (suc i) xs) all)) ∙ e
