@@ -1,21 +1,19 @@
 -- The rows that a genesis begins with.
 use Rattle.std.proofs.Math.Seq.{drop-cons}
-use Rattle.std.proofs.Common.{◌≡◌, ◌≤◌, ◌<◌, ◌+◌, ◌^◌, ℕ, suc, drop, get_or, length, refl, sym, ap, ◌∙◌, subst, arith, List, [], ◌∷◌, map, sum, All, Bool, true, false, cond, IfSome, Option, Some, None, option_map, if◌then◌else◌}
+use Rattle.std.proofs.Common.{◌≡◌, ◌≤◌, ◌<◌, ◌+◌, ℕ, suc, drop, get_or, length, refl, sym, ap, ◌∙◌, subst, arith, List, [], ◌∷◌, map, All, Bool, true, false, cond, IfSome, Option, Some, None, if◌then◌else◌}
 use Rattle.std.specs.List.{AllByRecursion}
 use Rattle.std.specs.List.Sorted.{IsStrictlySortedBy}
-use Rattle.std.proofs.lemmas.List.Elements.{All-from_recursion, recursion_from_All}
+use Rattle.std.proofs.lemmas.List.Elements.{All-from_recursion}
 use Rattle.std.proofs.lemmas.List.Sums.{sum_by-cons}
 use Rattle.std.specs.BTreeMap.{BTreeMap, is_at}
 use Rattle.std.specs.FinMap.{FinMap, get, from_entries, same_map}
 use Rattle.al_base.specs.declared.key.Key.{Key}
 use Rattle.al_base.specs.declared.key.Key.TheVariants.{Account}
 use Rattle.al_base.specs.Keys.{key_cmp}
-use Rattle.al_rows.specs.declared.row.Row.{Row}
 use Rattle.al_rows.specs.declared.row.Row.TheVariants as row
-use Rattle.al_rows.specs.declared.account.AccountRow.{AccountRow}
 use Rattle.al_rows.specs.declared.stored.Stored.{Stored}
 use Rattle.al_rows.specs.Finite.{set_at}
-use Rattle.al_rows.specs.Rows.{AccountInRange, CountsInRange, IsKept, is_zero, unless_zero}
+use Rattle.al_rows.specs.Rows.{AccountInRange, IsKept, is_zero, unless_zero}
 use Rattle.al_rows.proofs.Keys.{keys_total, exact_keys}
 use Rattle.al_rows.proofs.Maps.{find-lookup, get-set_at}
 use Rattle.al_rows.proofs.Views.{get-of_entries, sorted}
@@ -27,7 +25,7 @@ use Rattle.al_eval.specs.declared.genesis.GenesisRow.{GenesisRow}
 use Rattle.al_eval.specs.declared.genesis.Genesis.{Genesis}
 use Rattle.al_eval.specs.Genesis.{IsGenesis, first_row, money_of}
 use Rattle.al_eval.specs.Next.{stored_at}
-use Rattle.al_eval.specs.Start.{with_account, with_accounts, and_accounts, start_totals}
+use Rattle.al_eval.specs.Start.{with_accounts, and_accounts, start_totals}
 use Rattle.al_base.specs.declared.account.Status.{Status}
 use Rattle.al_base.specs.declared.account.Status.TheVariants.{Offline, Online, NotParticipating}
 use Rattle.al_moves.specs.Moves.{share_of}

@@ -1,7 +1,7 @@
 -- The genesis record of this program: what it says, and what makes it a good one.
 use Rattle.std.specs.Prelude.{◌≡◌, ◌==◌, ℕ, suc, ◌^◌, ◌≤◌, ◌<◌, Bool, true, false, not, ◌&&◌, nat_lt, List, [], ◌∷◌, length, map, take, replicate, sum, codes, Some, None, Result, Ok, Err, if◌then◌else◌}
 use Rattle.std.specs.Str.{bytes_eq}
-use Rattle.std.specs.List.{list_all, list_any}
+use Rattle.std.specs.List.{list_any}
 use Rattle.al_base.specs.declared.account.Status.{Status}
 use Rattle.al_base.specs.declared.account.Status.TheVariants.{Offline, Online, NotParticipating}
 use Rattle.al_base.specs.declared.address.Address.{Address}
@@ -15,8 +15,7 @@ use Rattle.al_msgpack.specs.Rising.{rises}
 use Rattle.al_record.specs.declared.fault.Fault.{Fault}
 use Rattle.al_record.specs.declared.fault.Fault.TheVariants.{Field, Range}
 use Rattle.al_record.specs.Columns.{FieldOf, Format, number, up_to, text, array, record_field, records_field, table, member_open}
-use Rattle.al_rows.specs.declared.account.AccountRow.{AccountRow}
-use Rattle.al_rows.specs.Rows.{account_eq, no_account}
+use Rattle.al_rows.specs.Rows.{no_account}
 use Rattle.al_eval.specs.declared.genesis_fields.FirstRow.{FirstRow}
 use Rattle.al_eval.specs.declared.genesis_fields.FirstAccount.{FirstAccount}
 use Rattle.al_eval.specs.declared.genesis_fields.GenesisRecord.{GenesisRecord}

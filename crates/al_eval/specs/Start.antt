@@ -1,6 +1,5 @@
 -- The state that a genesis begins.
-use Rattle.std.specs.Prelude.{ℕ, List, [], ◌∷◌, option_map}
-use Rattle.std.specs.declared.option.Option.{Option}
+use Rattle.std.specs.Prelude.{List, [], ◌∷◌}
 use Rattle.std.specs.FinMap.{FinMap, from_entries}
 use Rattle.al_base.specs.declared.key.Key.TheVariants.{Account}
 use Rattle.al_base.specs.Keys.{key_cmp}

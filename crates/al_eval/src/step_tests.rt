@@ -78,8 +78,20 @@ fn a_payment_is_applied_once(rt: HostRuntime) -> Result<(), Fail> {
         hash,
         totals: start_totals(&accounts),
     };
-    assert_eq!(rt; before.totals.offline, Count { money: 2_500_000, units: 2 });
-    assert_eq!(rt; before.totals.apart, Count { money: 100_000, units: 0 });
+    assert_eq!(rt;
+        before.totals.offline,
+        Count {
+            money: 2_500_000,
+            units: 2
+        }
+    );
+    assert_eq!(rt;
+        before.totals.apart,
+        Count {
+            money: 100_000,
+            units: 0
+        }
+    );
     let mut tail = Tail::new(rt.alloc());
     let next = step_rows(rt.alloc(), &rows, &before, &tail, &block)
         .ok()

@@ -7,8 +7,8 @@ mod rule;
 mod work;
 
 pub use al_rows::{Change, Changes};
-pub use minimum::share_of;
 pub use laws::{moves_are_fair, rise_is_earned};
+pub use minimum::share_of;
 pub use rule::{Rule, Stop};
 pub use work::Work;
 

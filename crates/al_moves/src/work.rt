@@ -15,7 +15,9 @@ use crate::minimum::{earned, first_shortfall};
 use crate::{Rule, Stop};
 use al_base::{Address, Key, Special, Status};
 use al_rewards::MAX_BALANCE;
-use al_rows::{AccountRow, Change, Changes, Row, RowView, ViewFault, account_in, copy_row, same_row};
+use al_rows::{
+    AccountRow, Change, Changes, Row, RowView, ViewFault, account_in, copy_row, same_row,
+};
 use al_txn::Pay;
 use std::alloc::{AllocError, Global};
 use std::collections::BTreeMap;

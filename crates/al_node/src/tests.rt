@@ -505,6 +505,9 @@ fn a_chain_is_copied(rt: HostRuntime) -> Result<(), Fail> {
     };
     let chain = genesis.chain.copy(alloc)?;
     assert_eq!(rt; chain.hash, genesis.chain.hash);
-    assert_eq!(rt; (chain.interval, chain.id.as_slice()), (500_000, b"t".as_slice()));
+    assert_eq!(rt;
+        (chain.interval, chain.id.as_slice()),
+        (500_000, b"t".as_slice())
+    );
     Ok(())
 }

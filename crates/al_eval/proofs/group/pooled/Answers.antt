@@ -1,4 +1,4 @@
-use Rattle.std.proofs.Common.{◌≡◌, ◌+◌, ◌-◌, ◌^◌, min, drop, ap, arith, sym, ◌∙◌, []}
+use Rattle.std.proofs.Common.{◌≡◌, drop, ap, arith, []}
 use Rattle.std.proofs.lemmas.List.{drop_all}
 use Rattle.al_eval.specs.Steps.{pooled}
 use Rattle.al_eval.proofs.group.pooled.Goals as goal
