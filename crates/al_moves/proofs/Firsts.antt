@@ -76,19 +76,19 @@ module _ {B : Type 0} (f : Key → Option B) where
       ∙ ap (λ (ks : List (Key × Unit {0})). first_some f (map (λ e. e.0) ks)) (same_entries key_cmp keys_total exact_keys _ _ (sorted_passing es p) (sorted_passing fs q) (λ k. found es has k ∙ sym (found fs hat k)))
       ∙ sym (first_passing fs)
 
-turned_less : (k q : Key) → key_cmp k q ≡ Less → key_cmp q k ≡ Greater
+pub turned_less : (k q : Key) → key_cmp k q ≡ Less → key_cmp q k ≡ Greater
 turned_less k q e = keys_total.antisymm q k ∙ ap ordering_reverse e
 
-less : (r : Ordering) → T (is_lt r) → r ≡ Less
+pub less : (r : Ordering) → T (is_lt r) → r ≡ Less
 less Less h = refl
 less Equal h = absurd h
 less Greater h = absurd h
 
-first_of : (a b : Bool) → T (a && b) → T a
+pub first_of : (a b : Bool) → T (a && b) → T a
 first_of true b p = tt
 first_of false b p = p
 
-second_of : (a b : Bool) → T (a && b) → T b
+pub second_of : (a b : Bool) → T (a && b) → T b
 second_of true b p = p
 second_of false b p = absurd p
 

@@ -47,7 +47,7 @@ none_pending level s e =
     ∙ ap (λ c. cond (is_apart s.status || c) 0 (min max_balance (s.balance / 1000000 * (level - s.base)))) (nat_le_itself level)
     ∙ ap (λ c. cond c 0 (min max_balance (s.balance / 1000000 * (level - s.base)))) (or_true (is_apart s.status))
 
-pending_apart : (level : ℕ) (s : Share) → is_apart s.status ≡ true → pending level s ≡ 0
+pub pending_apart : (level : ℕ) (s : Share) → is_apart s.status ≡ true → pending level s ≡ 0
 unfolding pending
 pending_apart level s e = ap (λ b. cond (b || nat_le level s.base) 0 (min max_balance (s.balance / 1000000 * (level - s.base)))) e
 
@@ -322,7 +322,7 @@ pending_is level s apart low few = ap (λ b. cond (b || nat_le level s.base) 0 (
         sym (ap (λ n. s.balance / 1000000 * n) z ∙ mul-zero (s.balance / 1000000))
     by_test false t = omega arith
 
-worth_raised : (level rise : ℕ) (r : AccountRow) → IsExact level rise r → worth (level + rise) (row.Account r) ≡ worth level (row.Account r) + rise * units (row.Account r)
+pub worth_raised : (level rise : ℕ) (r : AccountRow) → IsExact level rise r → worth (level + rise) (row.Account r) ≡ worth level (row.Account r) + rise * units (row.Account r)
 worth_raised level rise r exact = by_status (is_apart r.status) refl
   where
     by_status : (b : Bool) → is_apart r.status ≡ b → r.balance + earned (level + rise) r ≡ r.balance + earned level r + rise * cond b 0 (r.balance / 1000000)

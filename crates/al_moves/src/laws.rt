@@ -1,5 +1,5 @@
 //! Laws of the definitions.
-ghost use Rattle.al_moves.specs.Money.{MovesAreFair, RiseIsEarned};
+ghost use Rattle.al_moves.specs.Money.{MoneyIsCounted, MovesAreFair, RiseIsCounted, RiseIsEarned};
 
 /// No move makes or loses money, and none is refused by the most that a balance may be where all
 /// the money is at most that.
@@ -10,4 +10,16 @@ pub fn moves_are_fair()
 /// At a higher level the same rows are worth more by what all units earn.
 pub fn rise_is_earned()
     ensures { RiseIsEarned }
+{}
+
+/// At a higher level the totals of the same rows are those raised to it: each unit of an account
+/// that earns has the rise more, in microAlgos.
+pub fn rise_is_counted()
+    ensures { RiseIsCounted }
+{}
+
+/// The totals of the three statuses together are all the money, and the units of those that earn
+/// are all units.
+pub fn money_is_counted()
+    ensures { MoneyIsCounted }
 {}

@@ -4,10 +4,11 @@
 mod laws;
 mod minimum;
 mod rule;
+mod totals;
 mod work;
 
 pub use al_rows::{Change, Changes};
-pub use laws::{moves_are_fair, rise_is_earned};
+pub use laws::{money_is_counted, moves_are_fair, rise_is_counted, rise_is_earned};
 pub use minimum::share_of;
 pub use rule::{Rule, Stop};
 pub use work::Work;

@@ -8,13 +8,15 @@ ghost use Rattle.al_base.specs.Keys.{key_cmp};
 ghost use Rattle.al_rewards.specs.Pending.{max_balance};
 ghost use Rattle.al_rows.specs.Finite.{set_at, or_below, overlaid};
 ghost use Rattle.al_rows.specs.Rows.{AccountInRange, CountsInRange, InRange, IsKept, RowMap, account, same_row};
+ghost use Rattle.al_moves.specs.Money.{IsWithin, counts};
 ghost use Rattle.al_moves.specs.Moves.{AreChanges, change_of, checked, closed, closed_at, credited, differing, give, has_no_counts, moved, paid, paid_amount, paid_close, put_account, rekeyed, take_in};
 ghost use Rattle.al_moves.specs.Works.{Does, IsNoRule, IsWork, Looks, at, nonzero, now_at};
 
 use crate::minimum::{earned, first_shortfall};
+use crate::totals::totals_of;
 use crate::{Rule, Stop};
 use al_base::{Address, Key, Special, Status};
-use al_rewards::MAX_BALANCE;
+use al_rewards::{MAX_BALANCE, Totals};
 use al_rows::{
     AccountRow, Change, Changes, Row, RowView, ViewFault, account_in, copy_row, same_row,
 };
@@ -357,6 +359,17 @@ fn credited(level: u64, r: AccountRow) -> AccountRow
         balance: r.balance + earned(level, &r),
         base: level,
         ..r
+    }
+}
+
+impl<V: RowView> Work<V> {
+    /// The totals with the changes so far, counted at the level of this work, from those before
+    /// the block. Nothing is said over a view that does not tell its rows, nor where all the money
+    /// is more than a balance may be: each number stops at 2^64 - 1.
+    pub fn totals(&self, before: &Totals) -> Totals
+        ensures { V.tells ≡ true → before.now ≡ counts self.now.level self.now.block → IsWithin self.now.level self.now.block → IsWithin self.now.level self.now.now → result ≡ counts self.now.level self.now.now }
+    {
+        totals_of(*before, &self.rows, &self.blocks)
     }
 }
 
