@@ -10,10 +10,9 @@ use Rattle.al_base.specs.declared.account.Status.{Status}
 use Rattle.al_base.specs.declared.account.Status.TheVariants.{Offline, Online, NotParticipating}
 use Rattle.al_base.specs.declared.key.Key.{Key}
 use Rattle.al_base.specs.Keys.{key_cmp}
-use Rattle.al_rewards.specs.declared.share.Share.{Share}
 use Rattle.al_rewards.specs.declared.totals.Count.{Count}
 use Rattle.al_rewards.specs.declared.totals.Totals.{Totals}
-use Rattle.al_rewards.specs.Pending.{is_apart, max_balance}
+use Rattle.al_rewards.specs.Pending.{is_apart}
 use Rattle.al_rewards.specs.Totals.{AreTotals, all_units, and_count, and_share, count_of, earn, plus, raised}
 use Rattle.al_rewards.proofs.Exact.{changed}
 use Rattle.al_rows.specs.declared.account.AccountRow.{AccountRow}
@@ -44,7 +43,8 @@ worth_by level k r = worth level r
 total_three : (f g h : Key → Row → ℕ) (m : RowMap) → total (λ k r. f k r + g k r + h k r) m ≡ total f m + total g m + total h m
 total_three f g h m = total-plus keys_total (λ k r. f k r + g k r) h m ∙ ap (λ n. n + total h m) (total-plus keys_total f g m)
 
-total-le : (f g : Key → Row → ℕ) (m : RowMap) → ((k : Key) (r : Row) → f k r ≤ g k r) → total f m ≤ total g m
+-- no row weighs more, so all together do not
+pub total-le : (f g : Key → Row → ℕ) (m : RowMap) → ((k : Key) (r : Row) → f k r ≤ g k r) → total f m ≤ total g m
 total-le f g m h =
     let rest : total (λ k r. f k r + (g k r - f k r)) m ≡ total g m = total-same keys_total (λ k r. f k r + (g k r - f k r)) g m (λ k r _. (let l = h k r in omega arith)) in
     omega (arith, total-plus keys_total f (λ k r. g k r - f k r) m, rest)
@@ -159,6 +159,7 @@ module _ (level rise : ℕ) (m : RowMap) (exact : (k : Key) (r : AccountRow) →
       ap₂ (λ (a b : Count). whole (level + rise) a b (count (level + rise) NotParticipating m)) online offline
       ∙ ap (λ (c : Count). whole (level + rise) (earn (level + rise - level) (count level Online m)) (earn (level + rise - level) (count level Offline m)) c) apart_stays
 
+-- the totals of the same rows at a higher level
 pub counts_raised : RiseIsCounted
 counts_raised level rise m exact = counts_rise level rise m exact
 
@@ -181,8 +182,11 @@ count_of_status t Online m u = ap₂ (λ (b c : Count). whole t.level (plus t.on
 count_of_status t Offline m u = ap₂ (λ (a c : Count). whole t.level a (plus t.offline (both m u)) c) (plus_none t.online) (plus_none t.apart)
 count_of_status t NotParticipating m u = ap₂ (λ (a b : Count). whole t.level a b (plus t.apart (both m u))) (plus_none t.online) (plus_none t.offline)
 
--- what is under a key adds to each count what it weighs there
-share_weighs : (t : Totals) (k : Key) (o : Option Row) → and_share t (share_at o) ≡ with_each t (λ q. both (weight (money_by t.level q) k o) (weight (units_by q) k o))
+-- what a row adds to the count of a status
+abbrev weighed : ℕ → Key → Option Row → Status → Count
+weighed level k o q = both (weight (money_by level q) k o) (weight (units_by q) k o)
+
+share_weighs : (t : Totals) (k : Key) (o : Option Row) → and_share t (share_at o) ≡ with_each t (weighed t.level k o)
 unfolding count_of
 share_weighs t k None = none_more t
 share_weighs t k (Some (row.Account r)) = count_of_status t r.status (r.balance + earned t.level r) (r.balance / 1000000)
@@ -193,14 +197,15 @@ share_weighs t k (Some (row.Box b)) = none_more t
 total_without : (w : Key → Row → ℕ) (m : RowMap) (k : Key) → total w (set_at m k None) + weight w k (get m k) ≡ total w m
 total_without w m k = total-set_at keys_total exact_keys w m k None ∙ omega arith
 
--- the totals without the row under a key, and its share
+-- the totals without the row under a key, and with its share, are all
 pub counts_set : (level : ℕ) (m : RowMap) (k : Key) → and_share (counts level (set_at m k None)) (share_at (get m k)) ≡ counts level m
 unfolding counts
 counts_set level m k =
     let n = set_at m k None in
-    let back : (q : Status) → plus (count level q n) (both (weight (money_by level q) k (get m k)) (weight (units_by q) k (get m k))) ≡ count level q m = λ q. ap₂ both (total_without (money_by level q) m k) (total_without (units_by q) m k) in
+    let f = weighed level k (get m k) in
+    let back : (q : Status) → plus (count level q n) (f q) ≡ count level q m = λ q. ap₂ both (total_without (money_by level q) m k) (total_without (units_by q) m k) in
     share_weighs (whole level (count level Online n) (count level Offline n) (count level NotParticipating n)) k (get m k)
-    ∙ ap (λ (a : Count). whole level a (plus (count level Offline n) (both (weight (money_by level Offline) k (get m k)) (weight (units_by Offline) k (get m k)))) (plus (count level NotParticipating n) (both (weight (money_by level NotParticipating) k (get m k)) (weight (units_by NotParticipating) k (get m k))))) (back Online)
+    ∙ ap (λ (a : Count). whole level a (plus (count level Offline n) (f Offline)) (plus (count level NotParticipating n) (f NotParticipating))) (back Online)
     ∙ ap₂ (λ (b c : Count). whole level (count level Online m) b c) (back Offline) (back NotParticipating)
 
 set_twice : (m : RowMap) (k : Key) (o : Option Row) → set_at (set_at m k o) k None ≡ set_at m k None
@@ -225,7 +230,8 @@ counts_put level m k o =
 
 -- ---- 64 bits
 
-units_within : (level : ℕ) (q : Status) (r : Row) → units_at q r ≤ money_at level q r
+-- the units of a row are at most its money
+pub units_within : (level : ℕ) (q : Status) (r : Row) → units_at q r ≤ money_at level q r
 units_within level q (row.Account r) = by_test (same_status r.status q)
   where
     by_test : (b : Bool) → (if b then r.balance / 1000000 else 0) ≤ (if b then r.balance + earned level r else 0)
@@ -260,6 +266,7 @@ others P k v m (e ∷ es) h a =
     let apart = ap (λ r. cond (is_eq r) v (get m e.0)) (turned_less k e.0 (less (key_cmp k e.0) (first_of _ (below_all key_cmp k es) h))) in
     (subst (P e) (sym (get-set_at keys_total m k v e.0 ∙ apart)) a.0, others P k v m es (second_of (is_lt (key_cmp k e.0)) (below_all key_cmp k es) h) a.1)
 
+-- what changed rows weigh is at most what all rows with the changes do
 weights-le : (w : Key → Row → ℕ) (es : List (Key × Option Row)) (m : RowMap) → T (is_sorted key_cmp es) → AllByRecursion (λ e. e.1 ≡ get m e.0) es → weights w es ≤ total w m
 weights-le w [] m h a = omega arith
 weights-le w (e ∷ es) m h a =
@@ -286,11 +293,12 @@ least_first e es m h = same_map keys_total exact_keys _ _ (λ q.
     by_test q false t = refl
 
 -- one row in place of another
-placed : (level : ℕ) (m : RowMap) (k : Key) (o : Option Row) → money level (set_at m k o) < 2 ^ 64 → in_place (counts level m) (share_at (get m k)) (share_at o) ≡ counts level (set_at m k o)
+pub placed : (level : ℕ) (m : RowMap) (k : Key) (o : Option Row) → money level (set_at m k o) < 2 ^ 64 → in_place (counts level m) (share_at (get m k)) (share_at o) ≡ counts level (set_at m k o)
 placed level m k o l =
     let put = counts_put level m k o in
     changed (counts level m) (counts level (set_at m k None)) _ (share_at (get m k)) (share_at o) refl (sym (counts_set level m k)) (subst AreTotals (sym put) (counts_fit level (set_at m k o) l)) ∙ put
 
+-- the totals with each changed row in place of what stood there are those of the rows with the changes
 pub counts_changed : (level : ℕ) (bs es : List (Key × Option Row)) (m : RowMap) → T (is_sorted key_cmp es) → AllByRecursion (λ e. now_at bs e.0 ≡ get m e.0) es → money level m + weights (worth_by level) es < 2 ^ 64
     → recounted bs (counts level m) es ≡ counts level (overlaid es m)
 unfolding money
@@ -313,12 +321,14 @@ before_block : (c : Option (Option Row)) (below : Option Row) → IfSome c (λ o
 before_block None below told had = absurd (true≢false (sym had))
 before_block (Some x) below told had = told
 
-pub work_counted : (level : ℕ) (t : Bool) (m : RowMap) (rs bs ss : List (Key × Option Row)) → IsWork t m rs bs ss → t ≡ true → IsStrictlySortedBy key_cmp (map (λ e. e.0) rs)
-    → IsWithin level m → IsWithin level (overlaid rs m) → recounted bs (counts level m) rs ≡ counts level (overlaid rs m)
+pub work_counted : (level : ℕ) (t : Bool) (m : RowMap) (rs bs ss : List (Key × Option Row)) (before result : Totals) → IsWork t m rs bs ss → t ≡ true → IsStrictlySortedBy key_cmp (map (λ e. e.0) rs)
+    → result ≡ recounted bs before rs → before ≡ counts level m → IsWithin level m → IsWithin level (overlaid rs m) → result ≡ counts level (overlaid rs m)
 unfolding IsWithin money
-work_counted level t m rs bs ss w told ordered before now =
+work_counted level t m rs bs ss before result w told ordered value is block now =
     let found : AllByRecursion (λ e. at rs e.0 ≡ Some e.1) rs = all_more rs (λ e is. sym (find-lookup keys_total rs e.0) ∙ is) (each_found rs (sorted rs ordered)) in
     let few = weights-le (worth_by level) rs (overlaid rs m) (sorted rs ordered) (all_more rs (λ e is. now_changed rs m e.0 e.1 (sym is)) found) in
-    counts_changed level bs rs m (sorted rs ordered)
+    value
+    ∙ ap (λ (x : Totals). recounted bs x rs) is
+    ∙ counts_changed level bs rs m (sorted rs ordered)
     (all_more rs (λ e is. before_block (at bs e.0) (get m e.0) (w.told told e.0) (w.has_block e.0 (ap is_some is))) found)
     (omega arith)

@@ -1,8 +1,9 @@
 use super::*;
 use al_base::{Address, Key, Special, Status};
+use al_rewards::{Count, Totals};
 use al_rows::{AccountRow, MapView, Never, Row, account_in};
 use al_txn::Pay;
-use std::alloc::Global;
+use std::alloc::{AllocError, Global};
 use std::collections::BTreeMap;
 use std::test::*;
 
@@ -15,6 +16,8 @@ const POOL: Address = Address([2; 32]);
 const PAYER: Address = Address([3; 32]);
 
 const RECEIVER: Address = Address([4; 32]);
+
+const VOTER: Address = Address([5; 32]);
 
 // A payment by an account with 2,500,000 microAlgos, with a fee of 1,000, and what differs then.
 fn paid(alloc: Global, amount: u64) -> Result<Changes, Stop<Never>> {
@@ -67,5 +70,122 @@ fn a_payment_below_the_minimum(rt: HostRuntime) -> Result<(), Fail> {
     let stop = paid(rt.alloc(), 2_399_001).err();
     let rule = Rule::too_little(42, 99_999, 100_000, &PAYER);
     assert!(rt; matches!(stop, Some(Stop::Rule(broken)) if broken == rule));
+    Ok(())
+}
+
+/// Payments of a block: payer, receiver, amount and close address; and money and units of each
+/// status after it, of those that are online, those that are offline and those that are apart.
+const PAYMENTS: [(Address, Address, u64, Address, [u64; 6]); 5] = [
+    (
+        PAYER,
+        SINK,
+        1_000,
+        NOBODY,
+        [1_066_666, 1, 2_632_332, 2, 9_001_000, 9],
+    ),
+    // To a new account.
+    (
+        PAYER,
+        RECEIVER,
+        700_000,
+        NOBODY,
+        [1_066_666, 1, 2_632_332, 1, 9_001_000, 9],
+    ),
+    // From one status to another.
+    (
+        VOTER,
+        RECEIVER,
+        500_000,
+        NOBODY,
+        [566_666, 0, 3_132_332, 2, 9_001_000, 9],
+    ),
+    // An account from before the block goes, and then one that is new.
+    (
+        PAYER,
+        NOBODY,
+        0,
+        VOTER,
+        [2_498_998, 2, 1_200_000, 1, 9_001_000, 9],
+    ),
+    (
+        RECEIVER,
+        NOBODY,
+        0,
+        SINK,
+        [2_498_998, 2, 0, 0, 10_201_000, 10],
+    ),
+];
+
+fn counted(numbers: [u64; 6]) -> Totals {
+    Totals {
+        level: 66_666,
+        online: Count {
+            money: numbers[0],
+            units: numbers[1],
+        },
+        offline: Count {
+            money: numbers[2],
+            units: numbers[3],
+        },
+        apart: Count {
+            money: numbers[4],
+            units: numbers[5],
+        },
+    }
+}
+
+// An account of each status, at level 0.
+fn holders(alloc: Global) -> Result<MapView, AllocError> {
+    let payer = AccountRow {
+        balance: 2_500_000,
+        ..AccountRow::none()
+    };
+    let voter = AccountRow {
+        status: Status::Online,
+        balance: 1_000_000,
+        ..AccountRow::none()
+    };
+    let sink = AccountRow {
+        status: Status::NotParticipating,
+        balance: 9_000_000,
+        ..AccountRow::none()
+    };
+    let mut rows = BTreeMap::new(alloc);
+    rows.insert(Key::Account(PAYER), Row::Account(payer))?;
+    rows.insert(Key::Account(VOTER), Row::Account(voter))?;
+    rows.insert(Key::Account(SINK), Row::Account(sink))?;
+    Ok(MapView::new(alloc, rows))
+}
+
+#[test]
+fn totals_after_payments(rt: HostRuntime) -> Result<(), Fail> {
+    let special = Special {
+        sink: SINK,
+        pool: POOL,
+    };
+    let before = counted([1_066_666, 1, 2_633_332, 2, 9_000_000, 9]);
+    let view = holders(rt.alloc())?;
+    let mut work = Work::new(rt.alloc(), view, special, 66_666, 1);
+    assert_eq!(rt; work.totals(&before), before);
+    for (who, receiver, amount, close, after) in PAYMENTS {
+        let pay = Pay {
+            receiver,
+            amount,
+            close,
+        };
+        work.pay(&who, &pay).ok().ok_or("payment")?;
+        assert_eq!(rt; work.totals(&before), counted(after));
+    }
+    let row = AccountRow {
+        balance: 3_000_000,
+        ..AccountRow::none()
+    };
+    work.set(&Key::Account(VOTER), Some(Row::Account(row)))
+        .ok()
+        .ok_or("status")?;
+    assert_eq!(rt;
+        work.totals(&before),
+        counted([0, 0, 3_199_998, 3, 10_201_000, 10])
+    );
     Ok(())
 }
