@@ -31,13 +31,13 @@ use Rattle.al_moves.proofs.Overlays.{now_changed, same_key}
 
 -- ---- sums that weigh rows
 
-abbrev money_by : ℕ → Status → Key → Row → ℕ
+abbrev pub money_by : ℕ → Status → Key → Row → ℕ
 money_by level status k r = money_at level status r
 
-abbrev units_by : Status → Key → Row → ℕ
+abbrev pub units_by : Status → Key → Row → ℕ
 units_by status k r = units_at status r
 
-abbrev worth_by : ℕ → Key → Row → ℕ
+abbrev pub worth_by : ℕ → Key → Row → ℕ
 worth_by level k r = worth level r
 
 total_three : (f g h : Key → Row → ℕ) (m : RowMap) → total (λ k r. f k r + g k r + h k r) m ≡ total f m + total g m + total h m
@@ -194,7 +194,7 @@ share_weighs t k (Some (row.Asset a)) = none_more t
 share_weighs t k (Some (row.App a)) = none_more t
 share_weighs t k (Some (row.Box b)) = none_more t
 
-total_without : (w : Key → Row → ℕ) (m : RowMap) (k : Key) → total w (set_at m k None) + weight w k (get m k) ≡ total w m
+pub total_without : (w : Key → Row → ℕ) (m : RowMap) (k : Key) → total w (set_at m k None) + weight w k (get m k) ≡ total w m
 total_without w m k = total-set_at keys_total exact_keys w m k None ∙ omega arith
 
 -- the totals without the row under a key, and with its share, are all
@@ -208,7 +208,7 @@ counts_set level m k =
     ∙ ap (λ (a : Count). whole level a (plus (count level Offline n) (f Offline)) (plus (count level NotParticipating n) (f NotParticipating))) (back Online)
     ∙ ap₂ (λ (b c : Count). whole level (count level Online m) b c) (back Offline) (back NotParticipating)
 
-set_twice : (m : RowMap) (k : Key) (o : Option Row) → set_at (set_at m k o) k None ≡ set_at m k None
+pub set_twice : (m : RowMap) (k : Key) (o : Option Row) → set_at (set_at m k o) k None ≡ set_at m k None
 set_twice m k o = same_map keys_total exact_keys _ _ (λ q.
     get-set_at keys_total (set_at m k o) k None q
     ∙ ap (cond (eq_by_cmp key_cmp q k) None) (get-set_at keys_total m k o q)
@@ -219,7 +219,7 @@ set_twice m k o = same_map keys_total exact_keys _ _ (λ q.
     once true below = refl
     once false below = refl
 
-set_there : (m : RowMap) (k : Key) (o : Option Row) → get (set_at m k o) k ≡ o
+pub set_there : (m : RowMap) (k : Key) (o : Option Row) → get (set_at m k o) k ≡ o
 set_there m k o = get-set_at keys_total m k o k ∙ ap (λ b. cond b o (get m k)) ((eq_by_cmp_equiv keys_total).refl k)
 
 -- the totals with another row under a key, or none
@@ -254,7 +254,7 @@ counts_fit level m l =
 -- ---- changed rows, one after another
 
 -- what changed rows weigh
-abbrev weights : (Key → Row → ℕ) → List (Key × Option Row) → ℕ
+abbrev pub weights : (Key → Row → ℕ) → List (Key × Option Row) → ℕ
 weights w [] = 0
 weights w (e ∷ es) = weight w e.0 e.1 + weights w es
 
@@ -267,7 +267,7 @@ others P k v m (e ∷ es) h a =
     (subst (P e) (sym (get-set_at keys_total m k v e.0 ∙ apart)) a.0, others P k v m es (second_of (is_lt (key_cmp k e.0)) (below_all key_cmp k es) h) a.1)
 
 -- what changed rows weigh is at most what all rows with the changes do
-weights-le : (w : Key → Row → ℕ) (es : List (Key × Option Row)) (m : RowMap) → T (is_sorted key_cmp es) → AllByRecursion (λ e. e.1 ≡ get m e.0) es → weights w es ≤ total w m
+pub weights-le : (w : Key → Row → ℕ) (es : List (Key × Option Row)) (m : RowMap) → T (is_sorted key_cmp es) → AllByRecursion (λ e. e.1 ≡ get m e.0) es → weights w es ≤ total w m
 weights-le w [] m h a = omega arith
 weights-le w (e ∷ es) m h a =
     let below = first_of (below_all key_cmp e.0 es) (is_sorted key_cmp es) h in
