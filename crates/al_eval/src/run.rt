@@ -121,10 +121,11 @@ fn eval_over<V: RowView>(
         header.round,
     );
     let run = block_rows(alloc, &mut work, before, past, block);
+    let totals = work.totals(&before.totals);
     let (changes, view) = work.end();
     *answer = match run {
         Err(refusal) => Err(refusal),
-        Ok(()) => match delta_of(alloc, block, changes, before.totals) {
+        Ok(()) => match delta_of(alloc, block, changes, totals) {
             Ok(delta) => Ok(delta),
             Err(_) => Err(EvalRefusal::Memory),
         },

@@ -5,6 +5,7 @@ ghost use Rattle.al_base.specs.Keys.{key_cmp};
 ghost use Rattle.al_moves.specs.Money.{recounted, share_at};
 ghost use Rattle.al_moves.specs.Works.{at, now_at};
 
+use crate::minimum::share_of;
 use al_base::Key;
 use al_rewards::{Share, Totals};
 use al_rows::Row;
@@ -15,11 +16,7 @@ fn share_at(row: &Option<Row>) -> Option<Share>
     ensures { result ≡ share_at row.now }
 {
     match row {
-        Some(Row::Account(r)) => Some(Share {
-            status: r.status,
-            balance: r.balance,
-            base: r.base,
-        }),
+        Some(Row::Account(r)) => Some(share_of(r)),
         Some(Row::Asset(_)) | Some(Row::App(_)) | Some(Row::Box(_)) | None => None,
     }
 }
