@@ -40,7 +40,7 @@ or_true true = refl
 or_true false = refl
 
 -- where the rewards were given nothing is pending
-none_pending : (level : ℕ) (s : Share) → s.base ≡ level → pending level s ≡ 0
+pub none_pending : (level : ℕ) (s : Share) → s.base ≡ level → pending level s ≡ 0
 unfolding pending
 none_pending level s e =
     ap (λ n. cond (is_apart s.status || nat_le level n) 0 (min max_balance (s.balance / 1000000 * (level - s.base)))) e
@@ -90,7 +90,7 @@ each level k r = worth level r
 nothing_worth : (level : ℕ) → worth level (row.Account no_account) ≡ 0
 nothing_worth level = omega (arith, empty_pending level (share_of no_account) refl)
 
-weight_account : (level : ℕ) (who : Address) (o : Option Row) → weight (each level) (key.Account who) o ≡ worth level (row.Account (account_in o))
+pub weight_account : (level : ℕ) (who : Address) (o : Option Row) → weight (each level) (key.Account who) o ≡ worth level (row.Account (account_in o))
 weight_account level who None = sym (nothing_worth level)
 weight_account level who (Some (row.Account r)) = refl
 weight_account level who (Some (row.Asset a)) = sym (nothing_worth level)
@@ -104,7 +104,7 @@ weight_kept level who r = by_test (is_zero (row.Account r)) refl
     by_test true e = sym (worth_zero level r e)
     by_test false e = refl
 
-money_set : (level : ℕ) (m : RowMap) (who : Address) (r : AccountRow) → money level (set_account m who r) + worth level (row.Account (account m who)) ≡ money level m + worth level (row.Account r)
+pub money_set : (level : ℕ) (m : RowMap) (who : Address) (r : AccountRow) → money level (set_account m who r) + worth level (row.Account (account m who)) ≡ money level m + worth level (row.Account r)
 unfolding money
 money_set level m who r =
     ap (λ n. total (each level) (set_account m who r) + n) (sym (weight_account level who (get m (key.Account who))))
@@ -117,11 +117,11 @@ money_remove level m who =
     ap (λ n. total (each level) (set_at m (key.Account who) None) + n) (sym (weight_account level who (get m (key.Account who))))
     ∙ total-set_at keys_total exact_keys (each level) m (key.Account who) None ∙ omega arith
 
-worth-le-money : (level : ℕ) (m : RowMap) (who : Address) → worth level (row.Account (account m who)) ≤ money level m
+pub worth-le-money : (level : ℕ) (m : RowMap) (who : Address) → worth level (row.Account (account m who)) ≤ money level m
 worth-le-money level m who = omega (arith, money_remove level m who)
 
 -- an account after one was set
-same_is : (a b : Address) → is_at (key_cmp (key.Account a)) (key.Account b) ≡ same_address a b
+pub same_is : (a b : Address) → is_at (key_cmp (key.Account a)) (key.Account b) ≡ same_address a b
 same_is a b = sym (lists_ties nat_cmp unsigned_ties a.0 b.0)
 
 account-set : (m : RowMap) (a b : Address) (o : Option Row) → account (set_at m (key.Account a) o) b ≡ account_in (cond (same_address a b) o (get m (key.Account b)))

@@ -86,9 +86,9 @@ count level status m = record { money = total (λ k r. money_at level status r) 
 unfoldable pub counts : ℕ → RowMap → Totals
 counts level m = record { level = level; online = count level Online m; offline = count level Offline m; apart = count level NotParticipating m }
 
--- all the money is at most what a balance may be
+-- all the money is at most twice what a balance may be: where a level has risen and the pool has not yet paid, it is more than the one by at most what the pool holds
 unfoldable pub IsWithin : ℕ → RowMap → Type 0
-IsWithin level m = money level m ≤ max_balance
+IsWithin level m = money level m ≤ 2 * max_balance
 
 -- at a higher level the totals of the same rows are those that were raised
 abbrev pub RiseIsCounted : Type 0
