@@ -365,7 +365,7 @@ fn credited(level: u64, r: AccountRow) -> AccountRow
 impl<V: RowView> Work<V> {
     /// The totals with the changes so far, counted at the level of this work, from those before
     /// the block. Nothing is said over a view that does not tell its rows, nor where all the money
-    /// is more than a balance may be: each number stops at 2^64 - 1.
+    /// is more than twice 10^16 microAlgos: each number stops at 2^64 - 1.
     pub fn totals(&self, before: &Totals) -> Totals
         ensures { V.tells ≡ true → before.now ≡ counts self.now.level self.now.block → IsWithin self.now.level self.now.block → IsWithin self.now.level self.now.now → result ≡ counts self.now.level self.now.now }
     {
