@@ -5,3 +5,4 @@ pub mod Steps
 pub mod Next
 pub mod State
 pub mod Start
+pub mod Sound

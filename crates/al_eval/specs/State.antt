@@ -15,20 +15,19 @@ use Rattle.al_rows.specs.declared.row.Row.{Row}
 use Rattle.al_rows.specs.declared.stored.Stored.{Stored}
 use Rattle.al_rows.specs.Finite.{map_entries, overlaid}
 use Rattle.al_rows.specs.Rows.{RowMap, bare, row_eq}
-use Rattle.al_rewards.specs.Pending.{max_balance}
 use Rattle.al_rewards.specs.declared.totals.Totals.{Totals}
+use Rattle.al_rewards.specs.Totals.{all_units}
 use Rattle.al_txn.specs.declared.body.Body.{Body}
 use Rattle.al_txn.specs.declared.body.Body.TheVariants as body
 use Rattle.al_txn.specs.declared.chain.Chain.{Chain}
 use Rattle.al_txn.specs.declared.txn.Txn.{Txn}
-use Rattle.al_moves.specs.declared.rule.Rule.{Rule}
 use Rattle.al_moves.specs.Moves.{then_do, AreChanges}
-use Rattle.al_moves.specs.Money.{money, counts}
+use Rattle.al_moves.specs.Money.{counts}
 use Rattle.al_eval.specs.declared.before.Before.{Before}
 use Rattle.al_eval.specs.declared.before.EvalRefusal.{EvalRefusal}
 use Rattle.al_eval.specs.declared.before.EvalRefusal.TheVariants as answer
 use Rattle.al_eval.specs.Past.{entry_of}
-use Rattle.al_eval.specs.Steps.{Refusal, broken, header, block_rows}
+use Rattle.al_eval.specs.Steps.{Refusal, broken, header, pool_short, block_rows}
 
 -- what is fixed of the chain, the header of the last block, the rows with the rounds that changed them last, and all transactions so far in order
 pub record State : Type 0 where
@@ -56,9 +55,9 @@ stamped round old now = map_entries (λ k r. record { row = r; changed = stamp r
 abbrev pub after : State → Block → RowMap → State
 after s b m = record s { header = b.header; rows = stamped b.header.round s.rows m; past = s.past ++ map (λ i. i.txn) b.items }
 
--- the step of a block: a new state, or the first refusal. It is the ledger's step where each transaction is a payment, no account is listed as expired, and nothing is to be given: the pool holds its least, 100,000, and level, rate and residue are 0
+-- the step of a block: a new state, or the first refusal. It is the ledger's step where each transaction is a payment, and no account is listed as expired
 unfoldable pub step : State → Block → Result State Refusal
-step s b = then_do (block_rows (before_of s) (map entry_of s.past) b (bare s.rows)) (λ m. Ok (after s b m))
+step s b = then_do (block_rows (before_of s) (all_units (counts_in s)) (map entry_of s.past) b (bare s.rows)) (λ m. Ok (after s b m))
 
 -- one block after another
 abbrev pub replay : State → List Block → Result State Refusal
@@ -93,6 +92,7 @@ abbrev pub Steps : {F : Type 0} → Result State Refusal → Result (BTreeMap Ke
 Steps due (Ok rows) = (s : State) × (due ≡ Ok s) × (s.rows ≡ from_entries rows.entries)
 Steps due (Err (answer.Broken p r)) = due ≡ Err (broken p r)
 Steps due (Err (answer.Header f)) = due ≡ Err (header f)
+Steps due (Err (answer.PoolShort p o)) = due ≡ Err (pool_short p o)
 Steps due (Err (answer.View f)) = ⊤
 Steps due (Err answer.Memory) = ⊤
 
@@ -101,8 +101,3 @@ Steps due (Err answer.Memory) = ⊤
 -- what a block changes, put over the rows before, gives the rows after
 abbrev pub ChangesLead : Type 0
 ChangesLead = (m n : RowMap) (cs : List (Key × Option Row)) → AreChanges m n cs → overlaid cs m ≡ n
-
--- a block that is taken keeps the money of all accounts, and where that is at most what a balance may be, none is refused because a balance would pass it
-pub record StepIsFair : Type 0 where
-  pub kept : (s t : State) (b : Block) → step s b ≡ Ok t → money t.header.level (bare t.rows) ≡ money s.header.level (bare s.rows)
-  pub within : (s : State) (b : Block) (place : ℕ) (rule : Rule) → step s b ≡ Err (broken place rule) → money s.header.level (bare s.rows) ≤ max_balance → rule.number ≢ 41

@@ -6,13 +6,16 @@ use Rattle.std.specs.declared.result.Result.{Result}
 use Rattle.std.specs.declared.result.Result.TheVariants.{Ok, Err}
 use Rattle.std.specs.Option.{option_or, option_map}
 use Rattle.al_base.specs.Causes.{Rose}
+use Rattle.al_base.specs.declared.address.Address.{Address}
 use Rattle.al_block.specs.declared.header.Header.{Header}
 use Rattle.al_block.specs.declared.header.Field.{Field}
 use Rattle.al_block.specs.declared.header.Field.TheVariants as field
 use Rattle.al_block.specs.declared.block.Block.{Block}
 use Rattle.al_deltas.specs.declared.delta.RoundDelta.{RoundDelta}
 use Rattle.al_block.specs.Hashes.{header_hash_of, payset_hash_of, group_size}
-use Rattle.al_rows.specs.Rows.{RowMap, same_bytes}
+use Rattle.al_rewards.specs.declared.state.RewardsState.{RewardsState}
+use Rattle.al_rewards.specs.Next.{least_pool, next_rewards}
+use Rattle.al_rows.specs.Rows.{RowMap, same_bytes, account, set_account}
 use Rattle.al_txn.specs.declared.body.Body.{Body}
 use Rattle.al_txn.specs.declared.body.Body.TheVariants as body
 use Rattle.al_txn.specs.declared.chain.Chain.{Chain}
@@ -29,10 +32,11 @@ use Rattle.al_eval.specs.declared.before.EvalRefusal.TheVariants as answer
 use Rattle.al_eval.specs.declared.tail.Entry.{Entry}
 use Rattle.al_eval.specs.Past.{entry_of, has_id, lease_until}
 
--- why a block is refused: a transaction breaks a rule, or a header field is not what is due
+-- why a block is refused: a transaction breaks a rule, a header field is not what is due, or the pool would keep less than its least
 pub data Refusal : Type 0 where
   broken : (place : ℕ) (rule : Rule) → Refusal
   header : (field : Field) → Refusal
+  pool_short : (pool owed : ℕ) → Refusal
 
 -- ---- the header
 
@@ -45,20 +49,24 @@ first_fault (c ∷ cs) = if c.0 then first_fault cs else Some c.1
 abbrev pub is_in_time : ℕ → ℕ → Bool
 is_in_time last ts = nat_eq last 0 || nat_le last ts && nat_le ts (last + 25)
 
--- the round at which the reward rate is computed anew, after a round
-abbrev pub recalc_due : Before → ℕ → ℕ
-recalc_due s round = if nat_eq round s.header.recalc then round + s.chain.interval else s.header.recalc
+-- what a header says of rewards
+abbrev pub rewards_of : Header → RewardsState
+rewards_of h = record { level = h.level; rate = h.rate; residue = h.residue; recalc = h.recalc }
 
--- what is due while nothing is to be given: the pool holds its least, 100,000, and level, rate and residue are 0. They stay, and only the round of the next recalculation moves on. The general rule is not given yet
-unfoldable pub rewards_checks : Before → Header → List (Bool × Field)
-rewards_checks s h =
-    (nat_eq h.rate s.header.rate, field.Rate)
-    ∷ (nat_eq h.recalc (recalc_due s h.round), field.Rwcalr)
-    ∷ (nat_eq h.residue s.header.residue, field.Frac)
-    ∷ (nat_eq h.level s.header.level, field.Earn)
+-- the rewards that are due in a round, by the units and the pool's balance before it
+abbrev pub rewards_due : Before → ℕ → ℕ → RowMap → RewardsState
+rewards_due s round units m = next_rewards (rewards_of s.header) round s.chain.interval (account m s.chain.special.pool).balance units
+
+-- what is due of the rewards, in the order of the tests
+unfoldable pub rewards_checks : RewardsState → Header → List (Bool × Field)
+rewards_checks due h =
+    (nat_eq h.rate due.rate, field.Rate)
+    ∷ (nat_eq h.recalc due.recalc, field.Rwcalr)
+    ∷ (nat_eq h.residue due.residue, field.Frac)
+    ∷ (nat_eq h.level due.level, field.Earn)
     ∷ []
 
--- what is due of a header, in the order of the tests
+-- what is due of a header beside its rewards, in the order of the tests
 unfoldable pub header_checks : Before → Header → List (Bool × Field)
 header_checks s h =
     (nat_eq h.round (s.header.round + 1), field.Rnd)
@@ -67,7 +75,7 @@ header_checks s h =
     ∷ (is_in_time s.header.ts h.ts, field.Ts)
     ∷ (same_address h.sink s.chain.special.sink, field.Fees)
     ∷ (same_address h.pool s.chain.special.pool, field.Rwd)
-    ∷ rewards_checks s h
+    ∷ []
 
 -- the digest of the payset
 abbrev pub payset_fault : Block → Option Field
@@ -80,6 +88,18 @@ counter_fault s b = if nat_eq b.header.counter (s.header.counter + length b.item
 abbrev pub unless_fault : Option Field → RowMap → Result RowMap Refusal
 unless_fault None m = Ok m
 unless_fault (Some f) m = Err (header f)
+
+-- ---- the pool
+
+-- what all units earn, in microAlgos, by how much the level rises
+abbrev pub owed_by : Before → ℕ → Header → ℕ
+owed_by s units h = units * (h.level - s.header.level)
+
+-- the pool pays what is owed, and keeps its least
+unfoldable pub pool_paid : Address → ℕ → RowMap → Result RowMap Refusal
+pool_paid pool owed m =
+    if nat_lt (account m pool).balance (owed + least_pool) then Err (pool_short (account m pool).balance owed)
+    else Ok (set_account m pool (record (account m pool) { balance = (account m pool).balance - owed }))
 
 -- ---- groups
 
@@ -187,13 +207,15 @@ all_items c round level past place seen left (i ∷ is) m =
 
 -- ---- blocks
 
--- first the header, then the digest of the payset, then the groups in order, and last the count of the transactions
-unfoldable pub block_rows : Before → List Entry → Block → RowMap → Result RowMap Refusal
-block_rows s past b m =
+-- first the header, then the pool pays the units before the block, then the digest of the payset, then the groups in order, and last the count of the transactions
+unfoldable pub block_rows : Before → ℕ → List Entry → Block → RowMap → Result RowMap Refusal
+block_rows s units past b m =
     then_do (unless_fault (first_fault (header_checks s b.header)) m)
+    (λ m. then_do (unless_fault (first_fault (rewards_checks (rewards_due s b.header.round units m) b.header)) m)
+    (λ m. then_do (pool_paid s.chain.special.pool (owed_by s units b.header) m)
     (λ m. then_do (unless_fault (payset_fault b) m)
     (λ m. then_do (all_items s.chain b.header.round b.header.level past 0 [] 0 b.items m)
-    (λ n. unless_fault (counter_fault s b) n)))
+    (λ n. unless_fault (counter_fault s b) n)))))
 
 -- ---- what calls answer
 
@@ -202,6 +224,7 @@ abbrev pub Opens : {F : Type 0} → Chain → ℕ → ℕ → List Item → Resu
 Opens c place left items (Ok n) = (entered c place left items ≡ None) × (n ≡ left_after left items)
 Opens c place left items (Err (answer.Broken p r)) = entered c place left items ≡ Some (p, r)
 Opens c place left items (Err (answer.Header f)) = ⊥
+Opens c place left items (Err (answer.PoolShort p o)) = ⊥
 Opens c place left items (Err (answer.View f)) = ⊥
 Opens c place left items (Err answer.Memory) = ⊤
 
@@ -209,6 +232,7 @@ abbrev pub IsCounted : {F T : Type 0} → Result T (EvalRefusal F) → ℕ → �
 IsCounted (Ok x) before now = ⊤
 IsCounted (Err (answer.Broken p r)) before now = ⊤
 IsCounted (Err (answer.Header f)) before now = ⊤
+IsCounted (Err (answer.PoolShort p o)) before now = ⊤
 IsCounted (Err (answer.View f)) before now = Rose before now
 IsCounted (Err answer.Memory) before now = ⊤
 
@@ -216,6 +240,7 @@ abbrev pub Gives : {F T : Type 0} → Result RowMap Refusal → Result T (EvalRe
 Gives due (Ok x) new = due ≡ Ok new
 Gives due (Err (answer.Broken p r)) new = due ≡ Err (broken p r)
 Gives due (Err (answer.Header f)) new = due ≡ Err (header f)
+Gives due (Err (answer.PoolShort p o)) new = due ≡ Err (pool_short p o)
 Gives due (Err (answer.View f)) new = ⊤
 Gives due (Err answer.Memory) new = ⊤
 
@@ -229,6 +254,7 @@ abbrev pub Evals : {F : Type 0} → Result RowMap Refusal → RowMap → Result 
 Evals due old (Ok d) = (n : RowMap) × (due ≡ Ok n) × AreChanges old n (map change_of d.changes)
 Evals due old (Err (answer.Broken p r)) = due ≡ Err (broken p r)
 Evals due old (Err (answer.Header f)) = due ≡ Err (header f)
+Evals due old (Err (answer.PoolShort p o)) = due ≡ Err (pool_short p o)
 Evals due old (Err (answer.View f)) = ⊤
 Evals due old (Err answer.Memory) = ⊤
 

@@ -25,6 +25,8 @@ pub enum EvalRefusal<F> {
     Broken { place: usize, rule: Rule },
     /// A header field is not what is due.
     Header { field: Field },
+    /// The pool would keep less than 100,000 microAlgos if it paid what is owed.
+    PoolShort { pool: u64, owed: u128 },
     /// The view has failed.
     View(F),
     /// There is no memory.

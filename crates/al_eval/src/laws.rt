@@ -1,13 +1,19 @@
 //! Laws of the definitions.
-ghost use Rattle.al_eval.specs.State.{ChangesLead, StepIsFair};
+ghost use Rattle.al_eval.specs.State.{ChangesLead};
+ghost use Rattle.al_eval.specs.Sound.{StartIsSound, StepIsSound};
 
 /// What a block changes leads from the rows before to those after.
 pub fn changes_lead()
     ensures { ChangesLead }
 {}
 
-/// A block keeps the money of all accounts, and none is refused because a balance would pass the
-/// most where all the money does not.
-pub fn step_is_fair()
-    ensures { StepIsFair }
+/// A genesis begins a sound state.
+pub fn start_is_sound()
+    ensures { StartIsSound }
+{}
+
+/// A block leads from a sound state to a sound state with the same money, and none is refused
+/// because the pool could not pay, or because a balance would pass the most.
+pub fn step_is_sound()
+    ensures { StepIsSound }
 {}
