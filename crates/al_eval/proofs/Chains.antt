@@ -1,5 +1,5 @@
 -- What a block's changes lead to, and that no block makes or loses money.
-use Rattle.std.proofs.Common.{◌≡◌, ◌≢◌, refl, sym, ap, ◌∙◌, subst, ℕ, ◌+◌, ◌≤◌, List, [], ◌∷◌, ◌++◌, Result, Ok, Err, Option, Some, None, Bool, true, false, if◌then◌else◌, nat_lt, ◌||◌, option_map, eqb-true, arith, IfSome, map, length, take, replicate, ◌*◌, zero, suc}
+use Rattle.std.proofs.Common.{◌≡◌, ◌≢◌, refl, sym, ap, ◌∙◌, subst, ℕ, ◌+◌, ◌-◌, ◌≤◌, List, [], ◌∷◌, ◌++◌, Result, Ok, Err, Option, Some, None, Bool, true, false, if◌then◌else◌, nat_lt, ◌||◌, option_map, eqb-true, arith, IfSome, map, length, take, replicate, ◌*◌, zero, suc}
 use Rattle.std.specs.Option.{option_or}
 use Rattle.std.specs.List.{AllByRecursion}
 use Rattle.std.specs.FinMap.{FinMap, get, same_map}
@@ -11,10 +11,12 @@ use Rattle.al_block.specs.Hashes.{group_size}
 use Rattle.al_txn.specs.Ids.{group_id_of}
 use Rattle.al_rows.specs.Rows.{same_bytes}
 use Rattle.al_rewards.specs.Pending.{max_balance}
+use Rattle.al_rewards.specs.Next.{least_pool}
+use Rattle.al_rewards.specs.Totals.{all_units}
 use Rattle.al_rows.specs.declared.row.Row.{Row}
 use Rattle.al_rows.specs.declared.stored.Stored.{Stored}
 use Rattle.al_rows.specs.Finite.{overlaid, or_below}
-use Rattle.al_rows.specs.Rows.{RowMap, same_row, bare}
+use Rattle.al_rows.specs.Rows.{RowMap, same_row, bare, account, set_account}
 use Rattle.al_rows.proofs.Keys.{keys_total, exact_keys}
 use Rattle.al_rows.proofs.Maps.{get-map_entries}
 use Rattle.al_rows.proofs.Sames.{same_true}
@@ -32,8 +34,8 @@ use Rattle.al_moves.proofs.Monies.{moves_are_fair, fair_then}
 use Rattle.al_eval.specs.declared.before.Before.{Before}
 use Rattle.al_eval.specs.declared.tail.Entry.{Entry}
 use Rattle.al_eval.specs.Past.{entry_of, has_id}
-use Rattle.al_eval.specs.Steps.{Refusal, broken, header, first_fault, header_checks, rewards_checks, payset_fault, counter_fault, unless_fault, unless_broken, first_at, size_fault, form_rule, forms_fault, group_id_fault, pooled, pool_fault, group_fault, entered, left_after, held_until, item_fault, done_by, applied, transacted, at_place, all_items, block_rows}
-use Rattle.al_eval.specs.State.{State, before_of, after, stamp, stamped, step, ChangesLead, StepIsFair}
+use Rattle.al_eval.specs.Steps.{Refusal, broken, header, pool_short, first_fault, header_checks, rewards_checks, rewards_due, owed_by, pool_paid, payset_fault, counter_fault, unless_fault, unless_broken, first_at, size_fault, form_rule, forms_fault, group_id_fault, pooled, pool_fault, group_fault, entered, left_after, held_until, item_fault, done_by, applied, transacted, at_place, all_items, block_rows}
+use Rattle.al_eval.specs.State.{State, before_of, counts_in, after, stamp, stamped, step, ChangesLead}
 
 -- ---- the changes lead to the new rows
 
@@ -183,10 +185,11 @@ transacted_is c round level past seen i m =
 -- ---- blocks
 
 -- the same of a refusal with its place
-IsFairAt : ℕ → RowMap → Result RowMap Refusal → Type 0
+pub IsFairAt : ℕ → RowMap → Result RowMap Refusal → Type 0
 IsFairAt level m (Ok n) = money level n ≡ money level m
 IsFairAt level m (Err (broken p r)) = money level m ≤ max_balance → r.number ≢ 41
-IsFairAt level m (Err (header f)) = Unit {0}
+IsFairAt level m (Err (header f)) = ⊥
+IsFairAt level m (Err (pool_short p o)) = ⊥
 
 placed : (level place : ℕ) (m : RowMap) (due : Result RowMap Rule) → IsFair level m due → IsFairAt level m (at_place place due)
 unfolding IsFairAt
@@ -197,20 +200,23 @@ fair_at : (level : ℕ) (m n : RowMap) → money level n ≡ money level m → (
 unfolding IsFairAt
 fair_at level m n e (Ok k) h = h ∙ e
 fair_at level m n e (Err (broken p r)) h = λ l. h (omega arith)
-fair_at level m n e (Err (header f)) h = tt
+fair_at level m n e (Err (header f)) h = h
+fair_at level m n e (Err (pool_short p o)) h = h
 
 then_at : (level : ℕ) (m : RowMap) (due : Result RowMap Refusal) (f : RowMap → Result RowMap Refusal) → IsFairAt level m due → ((n : RowMap) → due ≡ Ok n → IsFairAt level n (f n)) → IsFairAt level m (then_do due f)
 unfolding IsFairAt
 then_at level m (Ok n) f h g = fair_at level m n h (f n) (g n refl)
 then_at level m (Err (broken p r)) f h g = h
-then_at level m (Err (header e)) f h g = tt
+then_at level m (Err (header e)) f h g = h
+then_at level m (Err (pool_short p o)) f h g = h
 
 broken_is : (level : ℕ) (m : RowMap) (o : Option (ℕ × Rule)) → IsOtherAt o → IsFairAt level m (unless_broken o m)
 unfolding IsFairAt
 broken_is level m None h = refl
 broken_is level m (Some f) h = λ _. h
 
-items_are : (c : Chain) (round level : ℕ) (past : List Entry) (place : ℕ) (seen : List Entry) (left : ℕ) (is : List Item) (m : RowMap) → IsFairAt level m (all_items c round level past place seen left is m)
+-- the transactions of a block make or lose no money
+pub items_are : (c : Chain) (round level : ℕ) (past : List Entry) (place : ℕ) (seen : List Entry) (left : ℕ) (is : List Item) (m : RowMap) → IsFairAt level m (all_items c round level past place seen left is m)
 unfolding IsFairAt
 items_are c round level past place seen left [] m = refl
 items_are c round level past place seen left (i ∷ is) m =
@@ -219,23 +225,9 @@ items_are c round level past place seen left (i ∷ is) m =
     (placed level place k (transacted c round level past seen i k) (transacted_is c round level past seen i k))
     (λ n _. items_are c round level past (place + 1) (seen ++ entry_of i.txn ∷ []) (left_after left (i ∷ is)) is n))
 
-unless_is : (level : ℕ) (o : Option Field) (m : RowMap) → IsFairAt level m (unless_fault o m)
-unfolding IsFairAt
-unless_is level None m = refl
-unless_is level (Some f) m = tt
-
-block_is : (s : Before) (past : List Entry) (b : Block) (m : RowMap) → IsFairAt b.header.level m (block_rows s past b m)
-unfolding block_rows
-block_is s past b m =
-    let level = b.header.level in
-    then_at level m (unless_fault (first_fault (header_checks s b.header)) m) _ (unless_is level (first_fault (header_checks s b.header)) m)
-    (λ n _. then_at level n (unless_fault (payset_fault b) n) _ (unless_is level (payset_fault b) n)
-    (λ k _. then_at level k (all_items s.chain b.header.round level past 0 [] 0 b.items k) _ (items_are s.chain b.header.round level past 0 [] 0 b.items k)
-    (λ j _. unless_is level (counter_fault s b) j)))
-
 -- ---- the level of a block that passes its header
 
-all_pass : (cs : List (Bool × Field)) → first_fault cs ≡ None → AllByRecursion (λ c. c.0 ≡ true) cs
+pub all_pass : (cs : List (Bool × Field)) → first_fault cs ≡ None → AllByRecursion (λ c. c.0 ≡ true) cs
 all_pass [] h = tt
 all_pass (c ∷ cs) h = by_test c.0 refl h (all_pass cs)
   where
@@ -243,34 +235,66 @@ all_pass (c ∷ cs) h = by_test c.0 refl h (all_pass cs)
     by_test true e k rest = (e, rest k)
     by_test false e k rest = absurd (let x : ◌≡◌ {A = Option Field} (Some c.1) None = k in cc)
 
-same_level : (s : Before) (h : Header) → first_fault (header_checks s h) ≡ None → h.level ≡ s.header.level
-unfolding header_checks rewards_checks
-same_level s h e = let p = all_pass (header_checks s h) e in eqb-true h.level s.header.level p.1.1.1.1.1.1.1.1.1.0
+-- ---- what a block has passed
 
-then_passed : (o : Option Field) (m : RowMap) (f : RowMap → Result RowMap Refusal) → ((n : RowMap) → then_do (unless_fault o m) f ≡ Ok n → o ≡ None)
-then_passed None m f n h = refl
-then_passed (Some x) m f n h = absurd (let y : ◌≡◌ {A = Result RowMap Refusal} (Err (header x)) (Ok n) = h in cc)
+-- the tests of the header, and the pool has enough
+pub record IsPassed (s : Before) (units : ℕ) (b : Block) (m : RowMap) : Type 0 where
+  pub header : AllByRecursion (λ c. c.0 ≡ true) (header_checks s b.header)
+  pub rewards : AllByRecursion (λ c. c.0 ≡ true) (rewards_checks (rewards_due s b.header.round units m) b.header)
 
-then_broken : (o : Option Field) (m : RowMap) (f : RowMap → Result RowMap Refusal) (place : ℕ) (rule : Rule) → then_do (unless_fault o m) f ≡ Err (broken place rule) → o ≡ None
-then_broken None m f place rule h = refl
-then_broken (Some x) m f place rule h = absurd (let y : ◌≡◌ {A = Result RowMap Refusal} (Err (header x)) (Err (broken place rule)) = h in cc)
+-- the pool's balance is too little for what is owed
+abbrev pub is_short : Before → ℕ → Block → RowMap → Bool
+is_short s units b m = nat_lt (account m s.chain.special.pool).balance (owed_by s units b.header + least_pool)
 
-block_level : (s : Before) (past : List Entry) (b : Block) (m n : RowMap) → block_rows s past b m ≡ Ok n → b.header.level ≡ s.header.level
-unfolding block_rows
-block_level s past b m n e = same_level s b.header (then_passed (first_fault (header_checks s b.header)) m _ n e)
+-- the rows after the pool paid
+abbrev pub after_pool : Before → ℕ → Block → RowMap → RowMap
+after_pool s units b m = set_account m s.chain.special.pool (record (account m s.chain.special.pool) { balance = (account m s.chain.special.pool).balance - owed_by s units b.header })
 
-broken_level : (s : Before) (past : List Entry) (b : Block) (m : RowMap) (place : ℕ) (rule : Rule) → block_rows s past b m ≡ Err (broken place rule) → b.header.level ≡ s.header.level
-unfolding block_rows
-broken_level s past b m place rule e = same_level s b.header (then_broken (first_fault (header_checks s b.header)) m _ place rule e)
+abbrev pub items_of : Before → ℕ → List Entry → Block → RowMap → Result RowMap Refusal
+items_of s units past b m = all_items s.chain b.header.round b.header.level past 0 [] 0 b.items (after_pool s units b m)
 
-pub block_keeps : (s : Before) (past : List Entry) (b : Block) (m n : RowMap) → block_rows s past b m ≡ Ok n → money b.header.level n ≡ money s.header.level m
+-- how a block comes to what is due
+abbrev pub BlockIs : Before → ℕ → List Entry → Block → RowMap → Result RowMap Refusal → Type 0
+BlockIs s units past b m (Ok n) = IsPassed s units b m × (is_short s units b m ≡ false) × (items_of s units past b m ≡ Ok n) × (counter_fault s b ≡ None)
+BlockIs s units past b m (Err (broken p r)) = IsPassed s units b m × (is_short s units b m ≡ false) × (items_of s units past b m ≡ Err (broken p r))
+BlockIs s units past b m (Err (header f)) = Unit {0}
+BlockIs s units past b m (Err (pool_short p o)) = IsPassed s units b m × (is_short s units b m ≡ true)
+
+then_none : (P : Result RowMap Refusal → Type 0) (o : Option Field) (m : RowMap) (f : RowMap → Result RowMap Refusal) → ((e : Field) → P (Err (header e))) → (o ≡ None → P (f m)) → P (then_do (unless_fault o m) f)
+then_none P None m f h g = g refl
+then_none P (Some e) m f h g = h e
+
+then_enough : (P : Result RowMap Refusal → Type 0) (b : Bool) (r : Refusal) (k : RowMap) (f : RowMap → Result RowMap Refusal) → (b ≡ true → P (Err r)) → (b ≡ false → P (f k)) → P (then_do (if b then Err r else Ok k) f)
+then_enough P true r k f h g = h refl
+then_enough P false r k f h g = g refl
+
+then_each : (P : Result RowMap Refusal → Type 0) (due : Result RowMap Refusal) (f : RowMap → Result RowMap Refusal) → ((r : Refusal) → due ≡ Err r → P (Err r)) → ((n : RowMap) → due ≡ Ok n → P (f n)) → P (then_do due f)
+then_each P (Ok n) f h g = g n refl
+then_each P (Err r) f h g = h r refl
+
+last_none : (P : Result RowMap Refusal → Type 0) (o : Option Field) (n : RowMap) → ((e : Field) → P (Err (header e))) → (o ≡ None → P (Ok n)) → P (unless_fault o n)
+last_none P None n h g = g refl
+last_none P (Some e) n h g = h e
+
+-- what the transactions of a block refuse is a broken rule
+items_broken : (s : Before) (units : ℕ) (past : List Entry) (b : Block) (m : RowMap) → IsPassed s units b m → is_short s units b m ≡ false → (r : Refusal) → items_of s units past b m ≡ Err r → BlockIs s units past b m (Err r)
 unfolding IsFairAt
-block_keeps s past b m n e = subst (IsFairAt b.header.level m) e (block_is s past b m) ∙ ap (λ l. money l m) (block_level s past b m n e)
+items_broken s units past b m passed enough (broken p r) e = (passed, enough, e)
+items_broken s units past b m passed enough (header f) e = tt
+items_broken s units past b m passed enough (pool_short p o) e =
+    absurd (subst (IsFairAt b.header.level (after_pool s units b m)) e (items_are s.chain b.header.round b.header.level past 0 [] 0 b.items (after_pool s units b m)))
 
-block_within : (s : Before) (past : List Entry) (b : Block) (m : RowMap) (place : ℕ) (rule : Rule) → block_rows s past b m ≡ Err (broken place rule) → money s.header.level m ≤ max_balance → rule.number ≢ 41
-unfolding IsFairAt
-block_within s past b m place rule e l =
-    subst (IsFairAt b.header.level m) e (block_is s past b m) (subst (λ n. money n m ≤ max_balance) (sym (broken_level s past b m place rule e)) l)
+pub block_is : (s : Before) (units : ℕ) (past : List Entry) (b : Block) (m : RowMap) → BlockIs s units past b m (block_rows s units past b m)
+unfolding block_rows pool_paid
+block_is s units past b m =
+    let P = BlockIs s units past b m in
+    then_none P (first_fault (header_checks s b.header)) m _ (λ _. tt)
+    (λ h. then_none P (first_fault (rewards_checks (rewards_due s b.header.round units m) b.header)) m _ (λ _. tt)
+    (λ r. let passed : IsPassed s units b m = record { header = all_pass (header_checks s b.header) h; rewards = all_pass (rewards_checks (rewards_due s b.header.round units m) b.header) r } in
+    then_enough P (is_short s units b m) (pool_short (account m s.chain.special.pool).balance (owed_by s units b.header)) (after_pool s units b m) _ (λ short. (passed, short))
+    (λ enough. then_none P (payset_fault b) (after_pool s units b m) _ (λ _. tt)
+    (λ _. then_each P (items_of s units past b m) (λ n. unless_fault (counter_fault s b) n) (items_broken s units past b m passed enough)
+    (λ n is. last_none P (counter_fault s b) n (λ _. tt) (λ c. (passed, enough, is, c)))))))
 
 -- ---- steps
 
@@ -282,24 +306,22 @@ step_err : (s : State) (b : Block) (due : Result RowMap Refusal) (r : Refusal) �
 step_err s b (Ok n) r e = absurd (let x : ◌≡◌ {A = Result State Refusal} (Ok (after s b n)) (Err r) = e in cc)
 step_err s b (Err q) r e = let x : ◌≡◌ {A = Result State Refusal} (Err q) (Err r) = e in let y : q ≡ r = cc in ap Err y
 
-step_keeps : (s t : State) (b : Block) → step s b ≡ Ok t → money t.header.level (bare t.rows) ≡ money s.header.level (bare s.rows)
+-- how a step comes to a state, or to a refusal
+pub step_taken : (s t : State) (b : Block) → step s b ≡ Ok t → (n : RowMap) × BlockIs (before_of s) (all_units (counts_in s)) (map entry_of s.past) b (bare s.rows) (Ok n) × (after s b n ≡ t)
 unfolding step
-step_keeps s t b e =
-    let h = step_ok s t b (block_rows (before_of s) (map entry_of s.past) b (bare s.rows)) e in
-    ap (λ (u : State). money u.header.level (bare u.rows)) (sym h.2)
-    ∙ ap (money b.header.level) (bare_stamped b.header.round s.rows h.0)
-    ∙ block_keeps (before_of s) (map entry_of s.past) b (bare s.rows) h.0 h.1
+step_taken s t b e =
+    let h = step_ok s t b (block_rows (before_of s) (all_units (counts_in s)) (map entry_of s.past) b (bare s.rows)) e in
+    (h.0, subst (BlockIs (before_of s) (all_units (counts_in s)) (map entry_of s.past) b (bare s.rows)) h.1 (block_is (before_of s) (all_units (counts_in s)) (map entry_of s.past) b (bare s.rows)), h.2)
 
-step_within : (s : State) (b : Block) (place : ℕ) (rule : Rule) → step s b ≡ Err (broken place rule) → money s.header.level (bare s.rows) ≤ max_balance → rule.number ≢ 41
+pub step_refused : (s : State) (b : Block) (r : Refusal) → step s b ≡ Err r → BlockIs (before_of s) (all_units (counts_in s)) (map entry_of s.past) b (bare s.rows) (Err r)
 unfolding step
-step_within s b place rule e l = block_within (before_of s) (map entry_of s.past) b (bare s.rows) place rule (step_err s b (block_rows (before_of s) (map entry_of s.past) b (bare s.rows)) (broken place rule) e) l
-
-pub step_is_fair : StepIsFair
-step_is_fair = record { kept = step_keeps; within = step_within }
+step_refused s b r e =
+    subst (BlockIs (before_of s) (all_units (counts_in s)) (map entry_of s.past) b (bare s.rows)) (step_err s b (block_rows (before_of s) (all_units (counts_in s)) (map entry_of s.past) b (bare s.rows)) r e)
+    (block_is (before_of s) (all_units (counts_in s)) (map entry_of s.past) b (bare s.rows))
 
 -- what else a block leaves
 pub after_step : (s t : State) (b : Block) → step s b ≡ Ok t → (t.header ≡ b.header) × (t.chain ≡ s.chain) × (t.past ≡ s.past ++ map (λ i. i.txn) b.items)
 unfolding step
 after_step s t b e =
-    let h = step_ok s t b (block_rows (before_of s) (map entry_of s.past) b (bare s.rows)) e in
+    let h = step_ok s t b (block_rows (before_of s) (all_units (counts_in s)) (map entry_of s.past) b (bare s.rows)) e in
     (ap (λ (u : State). u.header) (sym h.2), ap (λ (u : State). u.chain) (sym h.2), ap (λ (u : State). u.past) (sym h.2))
