@@ -5,6 +5,7 @@ pub mod Meaning
 pub mod Ends
 pub mod Nexts
 pub mod Chains
+pub mod Pools
 pub mod Starts
 pub mod Exclusive
 pub mod Once

@@ -1,0 +1,6 @@
+use Rattle.al_eval.proofs.Pools as pools
+use Rattle.al_eval.proofs.laws.step_is_sound.Goals as goal
+
+
+pub returns : goal.returns
+returns c = ?
