@@ -6,6 +6,8 @@ pub mod Ends
 pub mod Nexts
 pub mod Chains
 pub mod Pools
+pub mod Steadies
+pub mod Calms
 pub mod Starts
 pub mod Exclusive
 pub mod Once

@@ -15,6 +15,7 @@ use Rattle.al_digest.specs.Digests.{digest_of}
 use Rattle.al_digest.specs.declared.hashing.Prefix.TheVariants as prefixes
 use Rattle.al_rewards.specs.Next.{least_pool}
 use Rattle.al_rewards.specs.Pending.{is_apart, max_balance}
+use Rattle.al_rows.specs.declared.account.AccountRow.{AccountRow}
 use Rattle.al_rows.specs.declared.row.Row.{Row}
 use Rattle.al_rows.specs.declared.row.AppParams.{AppParams}
 use Rattle.al_rows.specs.declared.row.Local.{Local}
@@ -143,7 +144,7 @@ issued_of id k r = 0
 
 pub record Sound (s : State) : Type 0 where
   pub money : money s.header.level (bare s.rows) ≤ max_balance
-  pub bases : (who : Address) → is_apart (account (bare s.rows) who).status ≡ false → (account (bare s.rows) who).base ≤ s.header.level
+  pub bases : (k : Key) (r : AccountRow) → get (bare s.rows) k ≡ Some (row.Account r) → is_apart r.status ≡ false → r.base ≤ s.header.level
   pub resources : ResourcesAgree s.header.counter (bare s.rows)
   pub holdings : (id : ℕ) → total (holding_of id) (bare s.rows) ≡ total (issued_of id) (bare s.rows)
   pub counts : (who : Address) → CountsAgree (bare s.rows) who

@@ -1,0 +1,361 @@
+-- What no transaction changes: resource and box rows, the counts of accounts, and that sink and pool do not participate.
+use Rattle.std.proofs.Common.{◌≡◌, ◌≤◌, ◌+◌, ◌-◌, ℕ, refl, sym, ap, ◌∙◌, subst, arith, Bool, true, false, not, ◌&&◌, ◌||◌, if◌then◌else◌, nat_eq, nat_lt, cond, Option, Some, None, Result, Ok, Err}
+use Rattle.std.proofs.Math.Bool.{and_assoc}
+use Rattle.std.specs.FinMap.{get}
+use Rattle.std.specs.BTreeMap.{is_at}
+use Rattle.al_base.specs.declared.account.Special.{Special}
+use Rattle.al_base.specs.declared.account.Status.{Status}
+use Rattle.al_base.specs.declared.account.Status.TheVariants.{Offline, Online, NotParticipating}
+use Rattle.al_base.specs.declared.address.Address.{Address}
+use Rattle.al_base.specs.declared.key.Key.{Key}
+use Rattle.al_base.specs.declared.key.Key.TheVariants as key
+use Rattle.al_base.specs.Keys.{key_cmp}
+use Rattle.al_rewards.specs.Pending.{is_apart, max_balance}
+use Rattle.al_rows.specs.declared.account.AccountRow.{AccountRow}
+use Rattle.al_rows.specs.declared.row.Row.{Row}
+use Rattle.al_rows.specs.declared.row.Row.TheVariants as row
+use Rattle.al_rows.specs.Finite.{set_at, weight, total}
+use Rattle.al_rows.specs.Rows.{RowMap, is_zero, is_zero_account, unless_zero, account, account_in, set_account, no_account, no_address}
+use Rattle.al_rows.proofs.Keys.{keys_total, exact_keys}
+use Rattle.al_rows.proofs.Maps.{total-set_at}
+use Rattle.al_rows.proofs.Sames.{account_true}
+use Rattle.al_txn.specs.declared.body.Body.{Body}
+use Rattle.al_txn.specs.declared.body.Body.TheVariants as body
+use Rattle.al_txn.specs.declared.body.Pay.{Pay}
+use Rattle.al_txn.specs.declared.chain.Chain.{Chain}
+use Rattle.al_txn.specs.declared.txn.Txn.{Txn}
+use Rattle.al_moves.specs.declared.rule.Rule.{Rule}
+use Rattle.al_moves.specs.Moves.{then_do, same_address, credited, earned, put_account, given, taken, give, take_in, moved, has_no_counts, closed_at, closed, paid_amount, paid_close, paid, rekeyed, checked, unless_refused, first_shortfall, of_account, too_little}
+use Rattle.al_moves.proofs.Overlays.{get-set, same_key}
+use Rattle.al_moves.proofs.Monies.{same_is}
+use Rattle.al_eval.specs.Steps.{done_by, applied}
+
+-- ---- rows with one set
+
+-- what holds of the row that was set, and under each other key of the row before
+pub at_set : (Q : Option Row → Type 0) (m : RowMap) (k : Key) (o : Option Row) (q : Key) → (k ≡ q → Q o) → (is_at (key_cmp k) q ≡ false → Q (get m q)) → Q (get (set_at m k o) q)
+at_set Q m k o q h g = subst Q (sym (get-set m k o q)) (by_test (is_at (key_cmp k) q) refl)
+  where
+    by_test : (b : Bool) → is_at (key_cmp k) q ≡ b → Q (cond b o (get m q))
+    by_test true e = h (same_key k q e)
+    by_test false e = g e
+
+-- an account row as it is read back: a zero row is none
+pub at_unless : (Q : AccountRow → Type 0) (r : AccountRow) → Q r → (r ≡ record no_account { base = r.base } → Q no_account) → Q (account_in (unless_zero (row.Account r)))
+unfolding is_zero is_zero_account
+at_unless Q r h g = by_test (is_zero (row.Account r)) refl
+  where
+    by_test : (b : Bool) → is_zero (row.Account r) ≡ b → Q (account_in (if b then None else Some (row.Account r)))
+    by_test true e = g (account_true r (record no_account { base = r.base }) e)
+    by_test false e = h
+
+pub other_account : (m : RowMap) (a b : Address) (o : Option Row) → same_address a b ≡ false → account (set_at m (key.Account a) o) b ≡ account m b
+other_account m a b o apart = ap account_in (get-set m (key.Account a) o (key.Account b)) ∙ ap (λ c. account_in (cond c o (get m (key.Account b)))) (same_is a b ∙ apart)
+
+pub address_is : (a b : Address) → key.Account a ≡ key.Account b → a ≡ b
+address_is a b e = cc
+
+-- ---- what holds of each step that is not refused
+
+abbrev pub Holds : (RowMap → Type 0) → Result RowMap Rule → Type 0
+Holds P (Ok n) = P n
+Holds P (Err r) = Unit {0}
+
+-- a relation of the rows before and after that each step of a sender's transaction has
+pub record IsStep (P : RowMap → RowMap → Type 0) (level : ℕ) (who : Address) : Type 0 where
+  pub same : (m : RowMap) → P m m
+  pub on : (m k n : RowMap) → P m k → P k n → P m n
+  pub gives : (m : RowMap) (b : ℕ) → P m (set_account m who (record (credited level (account m who)) { balance = b }))
+  pub takes : (m : RowMap) (to : Address) (amount : ℕ) → P m (set_account m to (record (credited level (account m to)) { balance = (credited level (account m to)).balance + amount }))
+  pub signs : (m : RowMap) (auth : Address) → P m (set_account m who (record (account m who) { auth = auth }))
+
+-- and its close, if it closes
+abbrev pub IsClose : (RowMap → RowMap → Type 0) → Address → Type 0
+IsClose P who = (old m : RowMap) → has_no_counts (account old who) ≡ true → P old m → P old (set_at m (key.Account who) None)
+
+abbrev pub MayClose : (RowMap → RowMap → Type 0) → Address → Body → Type 0
+MayClose P who (body.Pay p) = same_address p.close no_address ≡ false → IsClose P who
+MayClose P who b = Unit {0}
+
+module _ (P : RowMap → RowMap → Type 0) (level : ℕ) (who : Address) (step : IsStep P level who) where
+  holds_then : (m : RowMap) (due : Result RowMap Rule) (f : RowMap → Result RowMap Rule) → Holds (P m) due → ((n : RowMap) → Holds (P n) (f n)) → Holds (P m) (then_do due f)
+  holds_then m (Ok k) f h g = after (f k) (g k)
+    where
+      after : (r : Result RowMap Rule) → Holds (P k) r → Holds (P m) r
+      after (Ok n) x = step.on m k n h x
+      after (Err r) x = tt
+  holds_then m (Err r) f h g = tt
+
+  holds_if : (m : RowMap) (b : Bool) (x y : Result RowMap Rule) → (b ≡ true → Holds (P m) x) → (b ≡ false → Holds (P m) y) → Holds (P m) (if b then x else y)
+  holds_if m true x y h g = h refl
+  holds_if m false x y h g = g refl
+
+  holds_put : (m : RowMap) (a : Address) (r : AccountRow) → P m (set_account m a r) → Holds (P m) (put_account m a r)
+  holds_put m a r h = holds_if m (nat_lt max_balance r.balance) _ (Ok (set_account m a r)) (λ _. tt) (λ _. h)
+
+  gives_holds : (amount : ℕ) (m : RowMap) → Holds (P m) (give level who amount m)
+  unfolding give
+  gives_holds amount m =
+      let c = credited level (account m who) in
+      holds_if m (nat_lt c.balance amount) (Err (too_little 40 c.balance amount who)) (put_account m who (record c { balance = c.balance - amount })) (λ _. tt)
+      (λ _. holds_put m who (record c { balance = c.balance - amount }) (step.gives m (c.balance - amount)))
+
+  takes_holds : (to : Address) (amount : ℕ) (m : RowMap) → Holds (P m) (take_in level to amount m)
+  unfolding take_in
+  takes_holds to amount m =
+      let c = credited level (account m to) in
+      holds_put m to (record c { balance = c.balance + amount }) (step.takes m to amount)
+
+  moved_holds : (to : Address) (amount : ℕ) (m : RowMap) → Holds (P m) (moved level who to amount m)
+  unfolding moved
+  moved_holds to amount m = holds_then m (give level who amount m) (λ n. take_in level to amount n) (gives_holds amount m) (λ n. takes_holds to amount n)
+
+  then_gone : IsClose P who → (m : RowMap) (due : Result RowMap Rule) → has_no_counts (account m who) ≡ true → Holds (P m) due → Holds (P m) (then_do due (λ n. Ok (set_at n (key.Account who) None)))
+  then_gone close m (Ok n) none h = close m n none h
+  then_gone close m (Err r) none h = tt
+
+  none_left : (a b : Bool) → (a || not b) ≡ false → b ≡ true
+  none_left true b h = cc
+  none_left false true h = refl
+  none_left false false h = cc
+
+  closed_holds : IsClose P who → (to : Address) (m : RowMap) → Holds (P m) (closed level who to m)
+  unfolding closed closed_at
+  closed_holds close to m =
+      let r = account m who in
+      holds_if m (same_address to who || not (has_no_counts r)) (Err (of_account 43 who)) _ (λ _. tt)
+      (λ e. then_gone close m (moved level who to (credited level r).balance m) (none_left _ _ e) (moved_holds to (credited level r).balance m))
+
+  paid_holds : (p : Pay) → (same_address p.close no_address ≡ false → IsClose P who) → (m : RowMap) → Holds (P m) (paid level who p m)
+  unfolding paid paid_amount paid_close
+  paid_holds p close m = holds_then m (paid_amount level who p m) (λ n. paid_close level who p n)
+      (holds_if m (nat_eq p.amount 0 && same_address p.receiver no_address) (Ok m) (moved level who p.receiver p.amount m) (λ _. step.same m) (λ _. moved_holds p.receiver p.amount m))
+      (λ n. holds_if n (same_address p.close no_address) (Ok n) (closed level who p.close n) (λ _. step.same n) (λ e. closed_holds (close e) p.close n))
+
+  rekeyed_holds : (to : Address) (m : RowMap) → Holds (P m) (rekeyed who to m)
+  unfolding rekeyed
+  rekeyed_holds to m =
+      let auth = if same_address to who then no_address else to in
+      holds_if m (same_address to no_address) (Ok m) (put_account m who (record (account m who) { auth = auth })) (λ _. step.same m)
+      (λ _. holds_put m who (record (account m who) { auth = auth }) (step.signs m auth))
+
+  refused_holds : (o : Option Rule) (m : RowMap) → Holds (P m) (unless_refused o m)
+  refused_holds None m = step.same m
+  refused_holds (Some r) m = tt
+
+  done_holds : (b : Body) → MayClose P who b → (t : Txn) → t.sender ≡ who → (m : RowMap) → Holds (P m) (done_by b level t m)
+  done_holds (body.Pay p) close t is m = subst (λ a. Holds (P m) (paid level a p m)) (sym is) (paid_holds p close m)
+  done_holds (body.KeyReg k) close t is m = step.same m
+  done_holds (body.Config c) close t is m = step.same m
+  done_holds (body.Move a) close t is m = step.same m
+  done_holds (body.Freeze f) close t is m = step.same m
+  done_holds (body.App a) close t is m = step.same m
+
+-- a transaction of the sender has it
+pub applied_holds : (P : RowMap → RowMap → Type 0) (c : Chain) (level : ℕ) (t : Txn) → IsStep P level t.sender → MayClose P t.sender t.body → (m : RowMap) → Holds (P m) (applied c level t m)
+unfolding applied
+applied_holds P c level t step close m =
+    let who = t.sender in
+    holds_then P level who step m (moved level who c.special.sink t.fee m) _ (moved_holds P level who step c.special.sink t.fee m)
+    (λ a. holds_then P level who step a (rekeyed who t.rekey a) _ (rekeyed_holds P level who step t.rekey a)
+    (λ b. holds_then P level who step b (done_by t.body level t b) _ (done_holds P level who step t.body close t refl b)
+    (λ d. refused_holds P level who step (first_shortfall level c.special m d) d)))
+
+-- ---- what each transaction keeps
+
+-- an account with its counts alone
+abbrev pub counts_of : AccountRow → AccountRow
+counts_of r = record no_account {
+  assets_held = r.assets_held;
+  assets_created = r.assets_created;
+  apps_created = r.apps_created;
+  apps_opted = r.apps_opted;
+  extra_pages = r.extra_pages;
+  uints = r.uints;
+  byte_slices = r.byte_slices;
+  boxes = r.boxes;
+  box_bytes = r.box_bytes;
+}
+
+-- each account that earns was given its rewards at the level or below
+abbrev pub AllBased : ℕ → RowMap → Type 0
+AllBased level m = (k : Key) (r : AccountRow) → get m k ≡ Some (row.Account r) → is_apart r.status ≡ false → r.base ≤ level
+
+-- weights under no account's key
+abbrev pub IsForOthers : (Key → Row → ℕ) → Type 0
+IsForOthers w = (who : Address) (r : Row) → w (key.Account who) r ≡ 0
+
+pub record Keeps (level : ℕ) (m n : RowMap) : Type 0 where
+  pub resources : (who : Address) (id : ℕ) → get n (key.Resource who id) ≡ get m (key.Resource who id)
+  pub sums : (w : Key → Row → ℕ) → IsForOthers w → total w n ≡ total w m
+  pub counts : (who : Address) → counts_of (account n who) ≡ counts_of (account m who)
+  pub bases : AllBased level m → AllBased level n
+
+none_weighs : (w : Key → Row → ℕ) → IsForOthers w → (who : Address) (o : Option Row) → weight w (key.Account who) o ≡ 0
+none_weighs w h who None = refl
+none_weighs w h who (Some r) = h who r
+
+no_resource : (a who : Address) (id : ℕ) → key.Account a ≡ key.Resource who id → ⊥
+no_resource a who id e = cc
+
+keeps_set : (level : ℕ) (m : RowMap) (a : Address) (o : Option Row) → counts_of (account_in o) ≡ counts_of (account m a) → (AllBased level m → (r : AccountRow) → o ≡ Some (row.Account r) → is_apart r.status ≡ false → r.base ≤ level) → Keeps level m (set_at m (key.Account a) o)
+keeps_set level m a o counts base = record {
+  resources = λ who id. at_set (λ p. p ≡ get m (key.Resource who id)) m (key.Account a) o (key.Resource who id) (λ e. absurd (no_resource a who id e)) (λ _. refl);
+  sums = λ w h. omega (arith, total-set_at keys_total exact_keys w m (key.Account a) o, none_weighs w h a o, none_weighs w h a (get m (key.Account a)));
+  counts = λ who. at_set (λ p. counts_of (account_in p) ≡ counts_of (account m who)) m (key.Account a) o (key.Account who) (λ e. counts ∙ ap (λ k. counts_of (account_in (get m k))) e) (λ _. refl);
+  bases = λ all k r. at_set (λ p. p ≡ Some (row.Account r) → is_apart r.status ≡ false → r.base ≤ level) m (key.Account a) o k (λ _. base all r) (λ _. all k r);
+}
+
+is_row : (b : Bool) (r s : AccountRow) → (if b then None else Some (row.Account r)) ≡ Some (row.Account s) → r ≡ s
+is_row true r s e = absurd (let x : ◌≡◌ {A = Option Row} None (Some (row.Account s)) = e in cc)
+is_row false r s e = let x : ◌≡◌ {A = Option Row} (Some (row.Account r)) (Some (row.Account s)) = e in cc
+
+-- an account is set with the counts that it has, and a base that is low
+keeps_account : (level : ℕ) (m : RowMap) (a : Address) (r : AccountRow) → counts_of r ≡ counts_of (account m a) → (AllBased level m → is_apart r.status ≡ false → r.base ≤ level) → Keeps level m (set_account m a r)
+keeps_account level m a r counts base = keeps_set level m a (unless_zero (row.Account r))
+    (at_unless (λ s. counts_of s ≡ counts_of (account m a)) r counts (λ e. sym (ap counts_of e) ∙ counts))
+    (λ all s e. subst (λ (q : AccountRow). is_apart q.status ≡ false → q.base ≤ level) (is_row (is_zero (row.Account r)) r s e) (base all))
+
+counts_credited : (level : ℕ) (r : AccountRow) (b : ℕ) → counts_of (record (credited level r) { balance = b }) ≡ counts_of r
+counts_credited level r b = elim (is_apart r.status) as (λ (t : Bool). counts_of (record (if t then r else record r { balance = r.balance + earned level r; base = level }) { balance = b }) ≡ counts_of r) [ true ↦ refl | false ↦ refl ]
+
+base_credited : (level : ℕ) (r : AccountRow) → is_apart (credited level r).status ≡ false → (credited level r).base ≤ level
+base_credited level r = by_test (is_apart r.status) refl
+  where
+    by_test : (t : Bool) → is_apart r.status ≡ t → is_apart (if t then r else record r { balance = r.balance + earned level r; base = level }).status ≡ false → (if t then r else record r { balance = r.balance + earned level r; base = level }).base ≤ level
+    by_test true e apart = absurd (let x : true ≡ false = sym e ∙ apart in cc)
+    by_test false e apart = omega arith
+
+-- the base of an account, which is 0 where it has no row
+account_based : (level : ℕ) (o : Option Row) → ((r : AccountRow) → o ≡ Some (row.Account r) → is_apart r.status ≡ false → r.base ≤ level) → is_apart (account_in o).status ≡ false → (account_in o).base ≤ level
+account_based level None h = λ _. omega arith
+account_based level (Some (row.Account r)) h = h r refl
+account_based level (Some (row.Asset a)) h = λ _. omega arith
+account_based level (Some (row.App a)) h = λ _. omega arith
+account_based level (Some (row.Box b)) h = λ _. omega arith
+
+keeps_steps : (level : ℕ) (who : Address) → IsStep (Keeps level) level who
+keeps_steps level who = record {
+  same = λ m. record { resources = λ _ _. refl; sums = λ _ _. refl; counts = λ _. refl; bases = λ h. h };
+  on = λ m k n h g. record {
+    resources = λ a id. g.resources a id ∙ h.resources a id;
+    sums = λ w is. g.sums w is ∙ h.sums w is;
+    counts = λ a. g.counts a ∙ h.counts a;
+    bases = λ all. g.bases (h.bases all);
+  };
+  gives = λ m b. keeps_account level m who (record (credited level (account m who)) { balance = b }) (counts_credited level (account m who) b) (λ _. base_credited level (account m who));
+  takes = λ m to amount. (let b = (credited level (account m to)).balance + amount in keeps_account level m to (record (credited level (account m to)) { balance = b }) (counts_credited level (account m to) b) (λ _. base_credited level (account m to)));
+  signs = λ m auth. keeps_account level m who (record (account m who) { auth = auth }) refl (λ all. account_based level (get m (key.Account who)) (all (key.Account who)));
+}
+
+-- nine tests from the left are the same from the right
+turned_and : (a b c d e f g h i : Bool) → (a && b && c && d && e && f && g && h && i) ≡ (a && (b && (c && (d && (e && (f && (g && (h && i))))))))
+turned_and a b c d e f g h i =
+    and_assoc (a && b && c && d && e && f && g) h i ∙ and_assoc (a && b && c && d && e && f) g (h && i) ∙ and_assoc (a && b && c && d && e) f (g && (h && i))
+    ∙ and_assoc (a && b && c && d) e (f && (g && (h && i))) ∙ and_assoc (a && b && c) d (e && (f && (g && (h && i)))) ∙ and_assoc (a && b) c (d && (e && (f && (g && (h && i)))))
+    ∙ and_assoc a b (c && (d && (e && (f && (g && (h && i))))))
+
+-- an account without counts has those of none
+no_counts : (r : AccountRow) → has_no_counts r ≡ true → counts_of no_account ≡ counts_of r
+no_counts r h =
+    sym (account_true (counts_of r) no_account (sym (turned_and (nat_eq r.assets_held 0) (nat_eq r.assets_created 0) (nat_eq r.apps_created 0) (nat_eq r.apps_opted 0) (nat_eq r.extra_pages 0) (nat_eq r.uints 0) (nat_eq r.byte_slices 0) (nat_eq r.boxes 0) (nat_eq r.box_bytes 0)) ∙ h))
+
+keeps_close : (level : ℕ) (who : Address) → IsClose (Keeps level) who
+keeps_close level who old m none h =
+    let gone : Keeps level m (set_at m (key.Account who) None) = keeps_set level m who None (no_counts (account old who) none ∙ sym (h.counts who)) (λ _ r e. absurd (let x : ◌≡◌ {A = Option Row} None (Some (row.Account r)) = e in cc)) in
+    (keeps_steps level who).on old m (set_at m (key.Account who) None) h gone
+
+any_close : (level : ℕ) (who : Address) (b : Body) → MayClose (Keeps level) who b
+any_close level who (body.Pay p) = λ _. keeps_close level who
+any_close level who (body.KeyReg k) = tt
+any_close level who (body.Config c) = tt
+any_close level who (body.Move a) = tt
+any_close level who (body.Freeze f) = tt
+any_close level who (body.App a) = tt
+
+pub applied_keeps : (c : Chain) (level : ℕ) (t : Txn) (m : RowMap) → Holds (Keeps level m) (applied c level t m)
+applied_keeps c level t m = applied_holds (Keeps level) c level t (keeps_steps level t.sender) (any_close level t.sender t.body) m
+
+-- ---- who does not participate
+
+-- an account that does not participate stays so
+abbrev pub Stays : Address → RowMap → RowMap → Type 0
+Stays who m n = (account m who).status ≡ NotParticipating → (account n who).status ≡ NotParticipating
+
+-- and has no less
+abbrev pub Gains : Address → RowMap → RowMap → Type 0
+Gains who m n = (account m who).status ≡ NotParticipating → ((account n who).status ≡ NotParticipating) × ((account m who).balance ≤ (account n who).balance)
+
+credited_apart : (level : ℕ) (r : AccountRow) → r.status ≡ NotParticipating → credited level r ≡ r
+credited_apart level r e = ap (λ s. if is_apart s then r else record r { balance = r.balance + earned level r; base = level }) e
+
+status_credited : (level : ℕ) (r : AccountRow) → (credited level r).status ≡ r.status
+status_credited level r = elim (is_apart r.status) as (λ (t : Bool). (if t then r else record r { balance = r.balance + earned level r; base = level }).status ≡ r.status) [ true ↦ refl | false ↦ refl ]
+
+-- a zero row participates
+no_zero : (r : AccountRow) → r.status ≡ NotParticipating → r ≡ record no_account { base = r.base } → ⊥
+no_zero r is e = let x : Offline ≡ NotParticipating = sym (ap (λ (a : AccountRow). a.status) e) ∙ is in cc
+
+stays_set : (who a : Address) (m : RowMap) (r : AccountRow) → r.status ≡ (account m a).status → Stays who m (set_account m a r)
+stays_set who a m r same is = at_set (λ p. (account_in p).status ≡ NotParticipating) m (key.Account a) (unless_zero (row.Account r)) (key.Account who)
+    (λ e. let apart : r.status ≡ NotParticipating = same ∙ ap (λ k. (account_in (get m k)).status) e ∙ is in
+    at_unless (λ s. s.status ≡ NotParticipating) r apart (λ z. absurd (no_zero r apart z)))
+    (λ _. is)
+
+stays_steps : (level : ℕ) (pool who : Address) → IsStep (Stays pool) level who
+stays_steps level pool who = record {
+  same = λ m h. h;
+  on = λ m k n h g is. g (h is);
+  gives = λ m b. stays_set pool who m (record (credited level (account m who)) { balance = b }) (status_credited level (account m who));
+  takes = λ m to amount. stays_set pool to m (record (credited level (account m to)) { balance = (credited level (account m to)).balance + amount }) (status_credited level (account m to));
+  signs = λ m auth. stays_set pool who m (record (account m who) { auth = auth }) refl;
+}
+
+-- another account is set
+gains_other : (who a : Address) (m : RowMap) (o : Option Row) → same_address a who ≡ false → Gains who m (set_at m (key.Account a) o)
+gains_other who a m o apart is = let same = other_account m a who o apart in (ap (λ (r : AccountRow). r.status) same ∙ is, omega (arith, ap (λ (r : AccountRow). r.balance) same))
+
+-- an account is set to no less
+gains_set : (who a : Address) (m : RowMap) (r : AccountRow) → ((account m a).status ≡ NotParticipating → (r.status ≡ NotParticipating) × ((account m a).balance ≤ r.balance)) → Gains who m (set_account m a r)
+gains_set who a m r more is = at_set (λ p. ((account_in p).status ≡ NotParticipating) × ((account m who).balance ≤ (account_in p).balance)) m (key.Account a) (unless_zero (row.Account r)) (key.Account who)
+    (λ e. let same : account m a ≡ account m who = ap (λ k. account_in (get m k)) e in
+    let h = more (ap (λ (s : AccountRow). s.status) same ∙ is) in
+    at_unless (λ s. (s.status ≡ NotParticipating) × ((account m who).balance ≤ s.balance)) r (h.0, omega (arith, ap (λ (s : AccountRow). s.balance) same)) (λ z. absurd (no_zero r h.0 z)))
+    (λ _. (is, omega arith))
+
+gains_steps : (level : ℕ) (pool who : Address) → same_address who pool ≡ false → IsStep (Gains pool) level who
+gains_steps level pool who apart = record {
+  same = λ m is. (is, omega arith);
+  on = λ m k n h g is. (let a = h is in let b = g a.0 in (b.0, omega arith));
+  gives = λ m b. gains_other pool who m (unless_zero (row.Account (record (credited level (account m who)) { balance = b }))) apart;
+  takes = λ m to amount. gains_set pool to m (record (credited level (account m to)) { balance = (credited level (account m to)).balance + amount })
+      (λ is. let same = credited_apart level (account m to) is in (status_credited level (account m to) ∙ is, omega (arith, ap (λ (s : AccountRow). s.balance) same)));
+  signs = λ m auth. gains_other pool who m (unless_zero (row.Account (record (account m who) { auth = auth }))) apart;
+}
+
+gains_close : (level : ℕ) (pool who : Address) → same_address who pool ≡ false → IsClose (Gains pool) who
+gains_close level pool who apart old m none h = (gains_steps level pool who apart).on old m (set_at m (key.Account who) None) h (gains_other pool who m None apart)
+
+stays_close : (pool who : Address) → same_address who pool ≡ false → IsClose (Stays pool) who
+stays_close pool who apart old m none h = λ is. (gains_other pool who m None apart (h is)).0
+
+-- the body closes the sender's account
+abbrev pub closes : Body → Bool
+closes (body.Pay p) = not (same_address p.close no_address)
+closes b = false
+
+abbrev may_if : (P : RowMap → RowMap → Type 0) (who : Address) (b : Body) → (closes b ≡ true → IsClose P who) → MayClose P who b
+may_if P who (body.Pay p) h = λ e. h (ap not e)
+may_if P who (body.KeyReg k) h = tt
+may_if P who (body.Config c) h = tt
+may_if P who (body.Move a) h = tt
+may_if P who (body.Freeze f) h = tt
+may_if P who (body.App a) h = tt
+
+-- of another sender's transaction it gains, or keeps what it has
+pub applied_gains : (pool : Address) (c : Chain) (level : ℕ) (t : Txn) (m : RowMap) → same_address t.sender pool ≡ false → Holds (Gains pool m) (applied c level t m)
+applied_gains pool c level t m apart = applied_holds (Gains pool) c level t (gains_steps level pool t.sender apart) (may_if (Gains pool) t.sender t.body (λ _. gains_close level pool t.sender apart)) m
+
+-- it stays, unless it is the sender and closes
+pub applied_stays : (sink : Address) (c : Chain) (level : ℕ) (t : Txn) (m : RowMap) → (closes t.body ≡ true → same_address t.sender sink ≡ false) → Holds (Stays sink m) (applied c level t m)
+applied_stays sink c level t m apart = applied_holds (Stays sink) c level t (stays_steps level sink t.sender) (may_if (Stays sink) t.sender t.body (λ e. stays_close sink t.sender (apart e))) m
