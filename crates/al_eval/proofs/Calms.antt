@@ -18,7 +18,7 @@ use Rattle.al_moves.specs.Moves.{then_do, same_address, plain_rule, unless_refus
 use Rattle.al_eval.specs.declared.tail.Entry.{Entry}
 use Rattle.al_eval.specs.Past.{entry_of}
 use Rattle.al_eval.specs.Steps.{Refusal, first_at, size_fault, form_rule, forms_fault, group_id_fault, pool_fault, group_fault, entered, left_after, item_fault, applied, transacted, unless_broken, at_place, all_items}
-use Rattle.al_eval.proofs.Steadies.{Holds, Keeps, Stays, Gains, closes, applied_keeps, applied_gains, applied_stays}
+use Rattle.al_eval.proofs.Steadies.{Holds, Keeps, Stays, Gains, closes, keeps_itself, keeps_on, applied_keeps, applied_gains, applied_stays}
 
 -- ---- well-formed transactions
 
@@ -106,19 +106,14 @@ pub record IsCalm (level : ℕ) (special : Special) (m n : RowMap) : Type 0 wher
 
 calm_itself : (level : ℕ) (special : Special) (m : RowMap) → IsCalm level special m m
 calm_itself level special m = record {
-  keeps = record { resources = λ _ _. refl; sums = λ _ _. refl; counts = λ _. refl; bases = λ h. h };
+  keeps = keeps_itself level m;
   pool = λ is. (is, omega arith);
   sink = λ is. is;
 }
 
 calm_on : (level : ℕ) (special : Special) (m k n : RowMap) → IsCalm level special m k → IsCalm level special k n → IsCalm level special m n
 calm_on level special m k n h g = record {
-  keeps = record {
-    resources = λ a id. g.keeps.resources a id ∙ h.keeps.resources a id;
-    sums = λ w is. g.keeps.sums w is ∙ h.keeps.sums w is;
-    counts = λ a. g.keeps.counts a ∙ h.keeps.counts a;
-    bases = λ all. g.keeps.bases (h.keeps.bases all);
-  };
+  keeps = keeps_on level m k n h.keeps g.keeps;
   pool = λ is. (let a = h.pool is in let b = g.pool a.0 in (b.0, omega arith));
   sink = λ is. g.sink (h.sink is);
 }

@@ -8,6 +8,8 @@ pub mod Chains
 pub mod Pools
 pub mod Steadies
 pub mod Calms
+pub mod Rises
+pub mod Sounds
 pub mod Starts
 pub mod Exclusive
 pub mod Once

@@ -211,7 +211,7 @@ is_row true r s e = absurd (let x : ◌≡◌ {A = Option Row} None (Some (row.A
 is_row false r s e = let x : ◌≡◌ {A = Option Row} (Some (row.Account r)) (Some (row.Account s)) = e in cc
 
 -- an account is set with the counts that it has, and a base that is low
-keeps_account : (level : ℕ) (m : RowMap) (a : Address) (r : AccountRow) → counts_of r ≡ counts_of (account m a) → (AllBased level m → is_apart r.status ≡ false → r.base ≤ level) → Keeps level m (set_account m a r)
+pub keeps_account : (level : ℕ) (m : RowMap) (a : Address) (r : AccountRow) → counts_of r ≡ counts_of (account m a) → (AllBased level m → is_apart r.status ≡ false → r.base ≤ level) → Keeps level m (set_account m a r)
 keeps_account level m a r counts base = keeps_set level m a (unless_zero (row.Account r))
     (at_unless (λ s. counts_of s ≡ counts_of (account m a)) r counts (λ e. sym (ap counts_of e) ∙ counts))
     (λ all s e. subst (λ (q : AccountRow). is_apart q.status ≡ false → q.base ≤ level) (is_row (is_zero (row.Account r)) r s e) (base all))
@@ -234,15 +234,22 @@ account_based level (Some (row.Asset a)) h = λ _. omega arith
 account_based level (Some (row.App a)) h = λ _. omega arith
 account_based level (Some (row.Box b)) h = λ _. omega arith
 
+-- one after another
+pub keeps_on : (level : ℕ) (m k n : RowMap) → Keeps level m k → Keeps level k n → Keeps level m n
+keeps_on level m k n h g = record {
+  resources = λ a id. g.resources a id ∙ h.resources a id;
+  sums = λ w is. g.sums w is ∙ h.sums w is;
+  counts = λ a. g.counts a ∙ h.counts a;
+  bases = λ all. g.bases (h.bases all);
+}
+
+pub keeps_itself : (level : ℕ) (m : RowMap) → Keeps level m m
+keeps_itself level m = record { resources = λ _ _. refl; sums = λ _ _. refl; counts = λ _. refl; bases = λ h. h }
+
 keeps_steps : (level : ℕ) (who : Address) → IsStep (Keeps level) level who
 keeps_steps level who = record {
-  same = λ m. record { resources = λ _ _. refl; sums = λ _ _. refl; counts = λ _. refl; bases = λ h. h };
-  on = λ m k n h g. record {
-    resources = λ a id. g.resources a id ∙ h.resources a id;
-    sums = λ w is. g.sums w is ∙ h.sums w is;
-    counts = λ a. g.counts a ∙ h.counts a;
-    bases = λ all. g.bases (h.bases all);
-  };
+  same = keeps_itself level;
+  on = keeps_on level;
   gives = λ m b. keeps_account level m who (record (credited level (account m who)) { balance = b }) (counts_credited level (account m who) b) (λ _. base_credited level (account m who));
   takes = λ m to amount. (let b = (credited level (account m to)).balance + amount in keeps_account level m to (record (credited level (account m to)) { balance = b }) (counts_credited level (account m to) b) (λ _. base_credited level (account m to)));
   signs = λ m auth. keeps_account level m who (record (account m who) { auth = auth }) refl (λ all. account_based level (get m (key.Account who)) (all (key.Account who)));
@@ -263,7 +270,7 @@ no_counts r h =
 keeps_close : (level : ℕ) (who : Address) → IsClose (Keeps level) who
 keeps_close level who old m none h =
     let gone : Keeps level m (set_at m (key.Account who) None) = keeps_set level m who None (no_counts (account old who) none ∙ sym (h.counts who)) (λ _ r e. absurd (let x : ◌≡◌ {A = Option Row} None (Some (row.Account r)) = e in cc)) in
-    (keeps_steps level who).on old m (set_at m (key.Account who) None) h gone
+    keeps_on level old m (set_at m (key.Account who) None) h gone
 
 any_close : (level : ℕ) (who : Address) (b : Body) → MayClose (Keeps level) who b
 any_close level who (body.Pay p) = λ _. keeps_close level who
@@ -293,10 +300,10 @@ status_credited : (level : ℕ) (r : AccountRow) → (credited level r).status �
 status_credited level r = elim (is_apart r.status) as (λ (t : Bool). (if t then r else record r { balance = r.balance + earned level r; base = level }).status ≡ r.status) [ true ↦ refl | false ↦ refl ]
 
 -- a zero row participates
-no_zero : (r : AccountRow) → r.status ≡ NotParticipating → r ≡ record no_account { base = r.base } → ⊥
+pub no_zero : (r : AccountRow) → r.status ≡ NotParticipating → r ≡ record no_account { base = r.base } → ⊥
 no_zero r is e = let x : Offline ≡ NotParticipating = sym (ap (λ (a : AccountRow). a.status) e) ∙ is in cc
 
-stays_set : (who a : Address) (m : RowMap) (r : AccountRow) → r.status ≡ (account m a).status → Stays who m (set_account m a r)
+pub stays_set : (who a : Address) (m : RowMap) (r : AccountRow) → r.status ≡ (account m a).status → Stays who m (set_account m a r)
 stays_set who a m r same is = at_set (λ p. (account_in p).status ≡ NotParticipating) m (key.Account a) (unless_zero (row.Account r)) (key.Account who)
     (λ e. let apart : r.status ≡ NotParticipating = same ∙ ap (λ k. (account_in (get m k)).status) e ∙ is in
     at_unless (λ s. s.status ≡ NotParticipating) r apart (λ z. absurd (no_zero r apart z)))

@@ -1,0 +1,114 @@
+-- The level rises, and the pool pays what all units earn: the money stays.
+use Rattle.std.proofs.Common.{◌≡◌, ◌≤◌, ◌<◌, ◌+◌, ◌-◌, ◌*◌, ◌/◌, ℕ, min, refl, sym, ap, ◌∙◌, subst, arith, Bool, true, false, cond, ◌||◌, if◌then◌else◌, nat_le, nat_lt, ltb-true, ltb-false, leb-true, mul-add, mul_comm, mul-zero, Option, Some, None}
+use Rattle.std.specs.FinMap.{get}
+use Rattle.std.specs.BTreeMap.{is_at}
+use Rattle.al_base.specs.declared.account.Status.{Status}
+use Rattle.al_base.specs.declared.account.Status.TheVariants.{Offline, Online, NotParticipating}
+use Rattle.al_base.specs.declared.address.Address.{Address}
+use Rattle.al_base.specs.declared.key.Key.{Key}
+use Rattle.al_base.specs.declared.key.Key.TheVariants as key
+use Rattle.al_base.specs.Keys.{key_cmp}
+use Rattle.al_rewards.specs.declared.share.Share.{Share}
+use Rattle.al_rewards.specs.Next.{least_pool}
+use Rattle.al_rewards.specs.Pending.{is_apart, pending, max_balance}
+use Rattle.al_rewards.specs.Totals.{all_units}
+use Rattle.al_rows.specs.declared.account.AccountRow.{AccountRow}
+use Rattle.al_rows.specs.declared.row.Row.{Row}
+use Rattle.al_rows.specs.declared.row.Row.TheVariants as row
+use Rattle.al_rows.specs.Finite.{set_at, weight, total}
+use Rattle.al_rows.specs.Rows.{RowMap, same_status, account, account_in, set_account}
+use Rattle.al_rows.proofs.Keys.{keys_total, exact_keys}
+use Rattle.al_rows.proofs.Maps.{total-remove, total-same, total-plus, weight-le-total}
+use Rattle.al_moves.specs.Moves.{share_of}
+use Rattle.al_moves.specs.Money.{worth, money, units, units_at, counts, IsExact}
+use Rattle.al_moves.proofs.Overlays.{get-set, same_key}
+use Rattle.al_moves.proofs.Monies.{pending_apart, weight_account, money_set, money_raised}
+use Rattle.al_eval.proofs.Steadies.{AllBased}
+
+-- ---- all units
+
+units_split : (r : Row) → units r ≡ units_at Online r + units_at Offline r
+units_split (row.Account r) = elim r.status as (λ s. (if is_apart s then 0 else r.balance / 1000000) ≡ (if same_status s Online then r.balance / 1000000 else 0) + (if same_status s Offline then r.balance / 1000000 else 0)) [
+  | Offline ↦ omega arith
+  | Online ↦ omega arith
+  | NotParticipating ↦ refl
+]
+units_split (row.Asset a) = refl
+units_split (row.App a) = refl
+units_split (row.Box b) = refl
+
+-- the units that are counted are those of all accounts
+pub units_counted : (level : ℕ) (m : RowMap) → all_units (counts level m) ≡ total (λ k r. units r) m
+unfolding counts
+units_counted level m =
+    sym (total-same keys_total (λ k r. units r) (λ k r. units_at Online r + units_at Offline r) m (λ k r _. units_split r) ∙ total-plus keys_total (λ k r. units_at Online r) (λ k r. units_at Offline r) m)
+
+-- ---- one account and the pool
+
+-- two keys weigh at most what all weigh
+two_weigh : (w : Key → Row → ℕ) (m : RowMap) (k q : Key) → is_at (key_cmp k) q ≡ false → weight w k (get m k) + weight w q (get m q) ≤ total w m
+two_weigh w m k q apart =
+    let left : get (set_at m k None) q ≡ get m q = get-set m k None q ∙ ap (λ b. cond b None (get m q)) apart in
+    omega (arith, total-remove keys_total exact_keys w m k, weight-le-total keys_total exact_keys w (set_at m k None) q, ap (weight w q) left)
+
+pending_least : (level : ℕ) (s : Share) → is_apart s.status ≡ false → s.base ≤ level → min max_balance (s.balance / 1000000 * (level - s.base)) ≤ pending level s
+unfolding pending
+pending_least level s apart low = subst (λ b. min max_balance (s.balance / 1000000 * (level - s.base)) ≤ cond (b || nat_le level s.base) 0 (min max_balance (s.balance / 1000000 * (level - s.base)))) (sym apart) (by_test (nat_le level s.base) refl)
+  where
+    by_test : (b : Bool) → nat_le level s.base ≡ b → min max_balance (s.balance / 1000000 * (level - s.base)) ≤ cond b 0 (min max_balance (s.balance / 1000000 * (level - s.base)))
+    by_test true t =
+        let le : level ≤ s.base = leb-true level s.base t in
+        let z : level - s.base ≡ 0 = omega arith in
+        omega (arith, ap (λ n. s.balance / 1000000 * n) z, mul-zero (s.balance / 1000000))
+    by_test false t = omega arith
+
+more_times : (a b c : ℕ) → a ≤ b → a * c ≤ b * c
+more_times a b c l =
+    let split : b ≡ a + (b - a) = omega arith in
+    omega (arith, ap (λ n. c * n) split, mul-add c a (b - a), mul_comm a c, mul_comm b c)
+
+apart_is : (s : Status) → s ≡ NotParticipating → is_apart s ≡ true
+apart_is s e = ap is_apart e
+
+module _ (level rise : ℕ) (m : RowMap) (pool : Address) where
+  -- what all units earn
+  abbrev all_earn : ℕ
+  all_earn = total (λ k r. units r) m * rise
+
+  not_pool : (k : Key) (r : AccountRow) → get m k ≡ Some (row.Account r) → is_apart r.status ≡ false → (account m pool).status ≡ NotParticipating → is_at (key_cmp k) (key.Account pool) ≡ false
+  not_pool k r is earns apart = by_test (is_at (key_cmp k) (key.Account pool)) refl
+    where
+      by_test : (b : Bool) → is_at (key_cmp k) (key.Account pool) ≡ b → b ≡ false
+      by_test true e =
+          let same : r ≡ account m pool = ap account_in (sym is ∙ ap (get m) (same_key k (key.Account pool) e)) in
+          absurd (let x : false ≡ true = sym earns ∙ ap (λ (a : AccountRow). is_apart a.status) same ∙ ap is_apart apart in cc)
+      by_test false e = refl
+
+  -- an account that earns has less than the most, with what it earns
+  earns_less : (k : Key) (r : AccountRow) → get m k ≡ Some (row.Account r) → is_apart r.status ≡ false → r.base ≤ level → money level m ≤ max_balance → (account m pool).status ≡ NotParticipating → all_earn + least_pool ≤ (account m pool).balance
+      → r.balance / 1000000 * (level + rise - r.base) ≤ max_balance
+  unfolding money
+  earns_less k r is earns low few apart enough =
+      let u = r.balance / 1000000 in
+      let both = two_weigh (λ k r. worth level r) m k (key.Account pool) (not_pool k r is earns apart) in
+      let first : weight (λ k r. worth level r) k (get m k) ≡ worth level (row.Account r) = ap (weight (λ k r. worth level r) k) is in
+      let second = weight_account level pool (get m (key.Account pool)) in
+      let own : weight (λ k r. units r) k (get m k) ≡ u = ap (weight (λ k r. units r) k) is ∙ ap (λ b. if b then 0 else u) earns in
+      let share : u ≤ total (λ k r. units r) m = omega (arith, weight-le-total keys_total exact_keys (λ k r. units r) m k) in
+      let part : u * rise ≤ all_earn = more_times u (total (λ k r. units r) m) rise share in
+      let split : level + rise - r.base ≡ (level - r.base) + rise = omega arith in
+      let parts : u * (level + rise - r.base) ≡ u * (level - r.base) + u * rise = ap (λ n. u * n) split ∙ mul-add u (level - r.base) rise in
+      let least = pending_least level (share_of r) earns low in
+      omega arith
+
+  -- the rows after the pool paid are worth at the higher level what those before were
+  pub money_risen : money level m ≤ max_balance → AllBased level m → (account m pool).status ≡ NotParticipating → all_earn + least_pool ≤ (account m pool).balance
+      → money (level + rise) (set_account m pool (record (account m pool) { balance = (account m pool).balance - all_earn })) ≡ money level m
+  money_risen few based apart enough =
+      let p = account m pool in
+      let q : AccountRow = record p { balance = p.balance - all_earn } in
+      let raised = money_raised level rise m (λ k r is earns. (based k r is earns, earns_less k r is earns (based k r is earns) few apart enough)) in
+      let set = money_set (level + rise) m pool q in
+      let old = pending_apart (level + rise) (share_of p) (ap is_apart apart) in
+      let new = pending_apart (level + rise) (share_of q) (ap is_apart apart) in
+      omega (arith, mul_comm rise (total (λ k r. units r) m))
