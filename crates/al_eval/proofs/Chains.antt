@@ -185,7 +185,7 @@ transacted_is c round level past seen i m =
 -- ---- blocks
 
 -- the same of a refusal with its place
-pub IsFairAt : ℕ → RowMap → Result RowMap Refusal → Type 0
+unfoldable pub IsFairAt : ℕ → RowMap → Result RowMap Refusal → Type 0
 IsFairAt level m (Ok n) = money level n ≡ money level m
 IsFairAt level m (Err (broken p r)) = money level m ≤ max_balance → r.number ≢ 41
 IsFairAt level m (Err (header f)) = ⊥

@@ -1,5 +1,5 @@
 -- A block leads from a sound state to a sound state.
-use Rattle.std.proofs.Common.{◌≡◌, ◌≢◌, ◌≤◌, ◌<◌, ◌+◌, ◌-◌, ◌*◌, ℕ, refl, sym, ap, ◌∙◌, subst, arith, Bool, true, false, if◌then◌else◌, nat_eq, nat_lt, ltb-true, eqb-true, Option, Some, None, Result, Ok, Err, List, map, length}
+use Rattle.std.proofs.Common.{◌≡◌, ◌≢◌, ◌≤◌, ◌<◌, ◌+◌, ◌-◌, ◌*◌, ℕ, refl, sym, ap, ◌∙◌, subst, arith, Bool, true, false, if◌then◌else◌, nat_eq, nat_lt, ltb-true, eqb-true, Option, Some, None, Result, Ok, Err, List, [], map, length}
 use Rattle.std.specs.FinMap.{get}
 use Rattle.al_base.specs.declared.account.Status.TheVariants.{NotParticipating}
 use Rattle.al_base.specs.declared.address.Address.{Address}
@@ -21,20 +21,53 @@ use Rattle.al_rows.specs.Rows.{RowMap, bare, account, account_in, set_account, u
 use Rattle.al_moves.specs.declared.rule.Rule.{Rule}
 use Rattle.al_moves.specs.Money.{money, units, counts}
 use Rattle.al_eval.specs.declared.before.Before.{Before}
+use Rattle.al_eval.specs.declared.tail.Entry.{Entry}
 use Rattle.al_eval.specs.Past.{entry_of}
 use Rattle.al_eval.specs.Steps.{broken, pool_short, rewards_of, header_checks, rewards_checks, owed_by, counter_fault}
 use Rattle.al_eval.specs.State.{State, before_of, counts_in, after, stamped, step}
 use Rattle.al_eval.specs.Sound.{Sound, CountsAgree, ResourcesAgree, StepIsSound, same_kind, holding_of, issued_of, owned, boxes_of, box_bytes_of, assets_held_in, assets_created_in, apps_created_in, apps_opted_in, extra_pages_in, uints_in, byte_slices_in}
 use Rattle.al_eval.proofs.Chains.{IsPassed, BlockIs, IsFairAt, is_short, after_pool, items_of, items_are, bare_stamped, step_taken, step_refused}
 use Rattle.al_eval.proofs.Pools.{CanPay, due_until, can_pay}
-use Rattle.al_eval.proofs.Steadies.{Keeps, AllBased, Stays, at_set, at_unless, no_zero, stays_set, keeps_account, keeps_on}
+use Rattle.al_eval.proofs.Steadies.{Keeps, AllBased, IsForOthers, counts_of,  at_set, at_unless, no_zero, stays_set, keeps_account, keeps_on}
 use Rattle.al_eval.proofs.Calms.{IsCalm, items_calm}
 use Rattle.al_eval.proofs.Rises.{units_counted, money_risen}
+
+none_if : (b : Bool) (f : Field) → (if b then None else Some f) ≡ None → b ≡ true
+none_if true f e = refl
+none_if false f e = absurd (let x : ◌≡◌ {A = Option Field} (Some f) None = e in cc)
+
+-- ---- what rows agree in where resources, boxes and counts are kept
+
+resources_agree : (old new level : ℕ) (m n : RowMap) → Keeps level m n → old ≤ new → ResourcesAgree old m → ResourcesAgree new n
+resources_agree old new level m n k more h = record {
+  given = λ who id r e. (let l = h.given who id r (sym (k.resources who id) ∙ e) in omega arith);
+  kinds = λ a b id r t e f. h.kinds a b id r t (sym (k.resources a id) ∙ e) (sym (k.resources b id) ∙ f);
+  creators = λ a b id r t e f. h.creators a b id r t (sym (k.resources a id) ∙ e) (sym (k.resources b id) ∙ f);
+}
+
+-- a count and what is counted are kept
+count_agrees : (level : ℕ) (m n : RowMap) (k : Keeps level m n) (who : Address) (f : AccountRow → ℕ) (w : Key → Row → ℕ) → IsForOthers w → f (counts_of (account m who)) ≡ total w m → f (counts_of (account n who)) ≡ total w n
+count_agrees level m n k who f w is h = ap f (k.counts who) ∙ h ∙ sym (k.sums w is)
+
+counts_agree : (level : ℕ) (m n : RowMap) (who : Address) → Keeps level m n → CountsAgree m who → CountsAgree n who
+counts_agree level m n who k h = record {
+  assets_held = count_agrees level m n k who (λ a. a.assets_held) (owned who assets_held_in) (λ _ _. refl) h.assets_held;
+  assets_created = count_agrees level m n k who (λ a. a.assets_created) (owned who assets_created_in) (λ _ _. refl) h.assets_created;
+  apps_created = count_agrees level m n k who (λ a. a.apps_created) (owned who apps_created_in) (λ _ _. refl) h.apps_created;
+  apps_opted = count_agrees level m n k who (λ a. a.apps_opted) (owned who apps_opted_in) (λ _ _. refl) h.apps_opted;
+  extra_pages = count_agrees level m n k who (λ a. a.extra_pages) (owned who extra_pages_in) (λ _ _. refl) h.extra_pages;
+  uints = count_agrees level m n k who (λ a. a.uints) (owned who uints_in) (λ _ _. refl) h.uints;
+  byte_slices = count_agrees level m n k who (λ a. a.byte_slices) (owned who byte_slices_in) (λ _ _. refl) h.byte_slices;
+  boxes = count_agrees level m n k who (λ a. a.boxes) (boxes_of who) (λ _ _. refl) h.boxes;
+  box_bytes = count_agrees level m n k who (λ a. a.box_bytes) (box_bytes_of who) (λ _ _. refl) h.box_bytes;
+}
 
 -- ---- the header
 
 same_rewards : (r d : RewardsState) → r.level ≡ d.level → r.rate ≡ d.rate → r.residue ≡ d.residue → r.recalc ≡ d.recalc → r ≡ d
-same_rewards r d a b c e = cc
+same_rewards r d a b c e =
+    ap (λ n. record r { level = n }) a ∙ ap (λ n. record r { level = d.level; rate = n }) b
+    ∙ ap (λ n. record r { level = d.level; rate = d.rate; residue = n }) c ∙ ap (λ n. record r { level = d.level; rate = d.rate; residue = d.residue; recalc = n }) e
 
 module _ (s : State) (b : Block) (sound : Sound s) where
   abbrev rows : RowMap
@@ -101,3 +134,71 @@ module _ (s : State) (b : Block) (sound : Sound s) where
 
   sink_paid : (account paid s.chain.special.sink).status ≡ NotParticipating
   sink_paid = stays_set s.chain.special.sink pool rows poorer refl sound.sink
+
+  -- ---- the transactions
+
+  abbrev tail : List Entry
+  tail = map entry_of s.past
+
+  calm : (n : RowMap) → items_of (before_of s) all tail b rows ≡ Ok n → IsCalm b.header.level s.chain.special paid n
+  calm n is = items_calm s.chain b.header.round b.header.level tail b.items paid n is
+
+  keeps : (n : RowMap) → items_of (before_of s) all tail b rows ≡ Ok n → Keeps b.header.level rows n
+  keeps n is = keeps_on b.header.level rows paid n keeps_paid (calm n is).keeps
+
+  money_is : (n : RowMap) → IsPassed (before_of s) all b rows → items_of (before_of s) all tail b rows ≡ Ok n → money b.header.level n ≡ money s.header.level rows
+  unfolding IsFairAt
+  money_is n h is = subst (IsFairAt b.header.level paid) is (items_are s.chain b.header.round b.header.level tail 0 [] 0 b.items paid) ∙ money_paid h
+
+  broken_is : (place : ℕ) (rule : Rule) → IsPassed (before_of s) all b rows → items_of (before_of s) all tail b rows ≡ Err (broken place rule) → rule.number ≢ 41
+  unfolding IsFairAt
+  broken_is place rule h is =
+      subst (IsFairAt b.header.level paid) is (items_are s.chain b.header.round b.header.level tail 0 [] 0 b.items paid) (omega (arith, money_paid h, sound.money))
+
+  -- the rows of the state after a block
+  new_rows : (n : RowMap) → n ≡ bare (after s b n).rows
+  new_rows n = sym (bare_stamped b.header.round s.rows n)
+
+  sound_after : (n : RowMap) → IsPassed (before_of s) all b rows → items_of (before_of s) all tail b rows ≡ Ok n → counter_fault (before_of s) b ≡ None → Sound (after s b n)
+  sound_after n h is counted =
+      let level = b.header.level in
+      let k = keeps n is in
+      let more : b.header.counter ≡ s.header.counter + length b.items = eqb-true b.header.counter (s.header.counter + length b.items) (none_if (nat_eq b.header.counter (s.header.counter + length b.items)) field.Tc counted) in
+      let p = pays h in
+      let gains = (calm n is).pool pool_paid_is.0 in
+      let based : AllBased level rows = λ q r e earns. (let l = sound.bases q r e earns in omega (arith, p.rises)) in
+      record {
+        money = subst (λ m. money level m ≤ max_balance) (new_rows n) (omega (arith, money_is n h is, sound.money));
+        bases = subst (AllBased level) (new_rows n) (k.bases based);
+        resources = subst (ResourcesAgree b.header.counter) (new_rows n) (resources_agree s.header.counter b.header.counter level rows n k (omega arith) sound.resources);
+        holdings = λ id. subst (λ m. total (holding_of id) m ≡ total (issued_of id) m) (new_rows n) (k.sums (holding_of id) (λ _ _. refl) ∙ sound.holdings id ∙ sym (k.sums (issued_of id) (λ _ _. refl)));
+        counts = λ who. subst (λ m. CountsAgree m who) (new_rows n) (counts_agree level rows n who k (sound.counts who));
+        sink = subst (λ m. (account m s.chain.special.sink).status ≡ NotParticipating) (new_rows n) ((calm n is).sink sink_paid);
+        pool = subst (λ m. (account m pool).status ≡ NotParticipating) (new_rows n) gains.0;
+        interval = sound.interval;
+        recalc = p.ahead;
+        fund = subst (λ m. due_until (rewards_of b.header) b.header.round ≤ (account m pool).balance) (new_rows n) (omega (arith, p.still, pool_paid_is.1, gains.1));
+      }
+
+-- ---- steps
+
+-- a step that is taken leads to a sound state
+pub step_sound : (s t : State) (b : Block) → Sound s → step s b ≡ Ok t → Sound t
+step_sound s t b sound e = let h = step_taken s t b e in subst Sound h.2 (sound_after s b sound h.0 h.1.0 h.1.2 h.1.3)
+
+-- with the same money
+pub step_keeps : (s t : State) (b : Block) → Sound s → step s b ≡ Ok t → money t.header.level (bare t.rows) ≡ money s.header.level (bare s.rows)
+step_keeps s t b sound e =
+    let h = step_taken s t b e in
+    ap (λ (u : State). money u.header.level (bare u.rows)) (sym h.2) ∙ ap (money b.header.level) (sym (new_rows s b sound h.0)) ∙ money_is s b sound h.0 h.1.0 h.1.2
+
+-- the pool is never short
+pub step_pays : (s : State) (b : Block) (pool owed : ℕ) → Sound s → step s b ≢ Err (pool_short pool owed)
+step_pays s b pool owed sound e = let h = step_refused s b (pool_short pool owed) e in not_short s b sound h.0 h.1
+
+-- no balance passes the most
+pub step_within : (s : State) (b : Block) (place : ℕ) (rule : Rule) → Sound s → step s b ≡ Err (broken place rule) → rule.number ≢ 41
+step_within s b place rule sound e = let h = step_refused s b (broken place rule) e in broken_is s b sound place rule h.0 h.2
+
+pub step_is_sound : StepIsSound
+step_is_sound = record { sound = step_sound; keeps = step_keeps; pays = step_pays; within = step_within }
