@@ -1,5 +1,5 @@
 -- What the transactions of a block keep: each is well formed, so the pool sends none, and the sink does not close.
-use Rattle.std.proofs.Common.{◌≡◌, ◌≤◌, ◌+◌, ◌-◌, ℕ, zero, suc, refl, sym, ap, ◌∙◌, subst, arith, Bool, true, false, not, ◌&&◌, ◌||◌, if◌then◌else◌, Option, Some, None, Result, Ok, Err, List, [], ◌∷◌, ◌++◌, take, replicate, option_map}
+use Rattle.std.proofs.Common.{◌≡◌, ◌+◌, ◌-◌, ℕ, zero, suc, refl, sym, ◌∙◌, subst, arith, Bool, true, false, not, ◌&&◌, ◌||◌, if◌then◌else◌, Option, Some, None, Result, Ok, Err, List, [], ◌∷◌, ◌++◌, take, replicate, option_map}
 use Rattle.std.specs.Option.{option_or}
 use Rattle.std.specs.List.{AllByRecursion}
 use Rattle.std.specs.Cmp.Lexicographic.{nat_list_eq_equiv}
@@ -17,7 +17,7 @@ use Rattle.al_moves.specs.declared.rule.Rule.{Rule}
 use Rattle.al_moves.specs.Moves.{then_do, same_address, plain_rule, unless_refused}
 use Rattle.al_eval.specs.declared.tail.Entry.{Entry}
 use Rattle.al_eval.specs.Past.{entry_of}
-use Rattle.al_eval.specs.Steps.{Refusal, first_at, size_fault, form_rule, forms_fault, group_id_fault, pool_fault, group_fault, entered, left_after, item_fault, applied, transacted, unless_broken, at_place, all_items}
+use Rattle.al_eval.specs.Steps.{Refusal, first_at, size_fault, form_rule, forms_fault, group_fault, entered, left_after, item_fault, applied, transacted, unless_broken, at_place, all_items}
 use Rattle.al_eval.proofs.Steadies.{Holds, Keeps, Stays, Gains, closes, keeps_itself, keeps_on, applied_keeps, applied_gains, applied_stays}
 
 -- ---- well-formed transactions

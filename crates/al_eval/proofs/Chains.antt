@@ -1,10 +1,9 @@
 -- What a block's changes lead to, and that no block makes or loses money.
-use Rattle.std.proofs.Common.{◌≡◌, ◌≢◌, refl, sym, ap, ◌∙◌, subst, ℕ, ◌+◌, ◌-◌, ◌≤◌, List, [], ◌∷◌, ◌++◌, Result, Ok, Err, Option, Some, None, Bool, true, false, if◌then◌else◌, nat_lt, ◌||◌, option_map, eqb-true, arith, IfSome, map, length, take, replicate, ◌*◌, zero, suc}
+use Rattle.std.proofs.Common.{◌≡◌, ◌≢◌, refl, sym, ap, ◌∙◌, subst, ℕ, ◌+◌, ◌-◌, ◌≤◌, List, [], ◌∷◌, ◌++◌, Result, Ok, Err, Option, Some, None, Bool, true, false, if◌then◌else◌, nat_lt, ◌||◌, option_map, arith, IfSome, map, length, take, replicate, ◌*◌, zero, suc}
 use Rattle.std.specs.Option.{option_or}
 use Rattle.std.specs.List.{AllByRecursion}
 use Rattle.std.specs.FinMap.{FinMap, get, same_map}
 use Rattle.al_base.specs.Keys.{key_cmp}
-use Rattle.al_block.specs.declared.header.Header.{Header}
 use Rattle.al_block.specs.declared.header.Field.{Field}
 use Rattle.al_block.specs.declared.block.Block.{Block}
 use Rattle.al_block.specs.Hashes.{group_size}

@@ -1,5 +1,5 @@
 -- The level rises, and the pool pays what all units earn: the money stays.
-use Rattle.std.proofs.Common.{◌≡◌, ◌≤◌, ◌<◌, ◌+◌, ◌-◌, ◌*◌, ◌/◌, ℕ, min, refl, sym, ap, ◌∙◌, subst, arith, Bool, true, false, cond, ◌||◌, if◌then◌else◌, nat_le, nat_lt, ltb-true, ltb-false, leb-true, mul-add, mul_comm, mul-zero, Option, Some, None}
+use Rattle.std.proofs.Common.{◌≡◌, ◌≤◌, ◌+◌, ◌-◌, ◌*◌, ◌/◌, ℕ, min, refl, sym, ap, ◌∙◌, subst, arith, Bool, true, false, cond, ◌||◌, if◌then◌else◌, nat_le, leb-true, mul-add, mul_comm, mul-zero, Some, None}
 use Rattle.std.specs.FinMap.{get}
 use Rattle.std.specs.BTreeMap.{is_at}
 use Rattle.al_base.specs.declared.account.Status.{Status}
@@ -20,7 +20,7 @@ use Rattle.al_rows.specs.Rows.{RowMap, same_status, account, account_in, set_acc
 use Rattle.al_rows.proofs.Keys.{keys_total, exact_keys}
 use Rattle.al_rows.proofs.Maps.{total-remove, total-same, total-plus, weight-le-total}
 use Rattle.al_moves.specs.Moves.{share_of}
-use Rattle.al_moves.specs.Money.{worth, money, units, units_at, counts, IsExact}
+use Rattle.al_moves.specs.Money.{worth, money, units, units_at, counts}
 use Rattle.al_moves.proofs.Overlays.{get-set, same_key}
 use Rattle.al_moves.proofs.Monies.{pending_apart, weight_account, money_set, money_raised}
 use Rattle.al_eval.proofs.Steadies.{AllBased}

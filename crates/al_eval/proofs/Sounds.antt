@@ -1,11 +1,9 @@
 -- A block leads from a sound state to a sound state.
-use Rattle.std.proofs.Common.{◌≡◌, ◌≢◌, ◌≤◌, ◌<◌, ◌+◌, ◌-◌, ◌*◌, ℕ, refl, sym, ap, ◌∙◌, subst, arith, Bool, true, false, if◌then◌else◌, nat_eq, nat_lt, ltb-true, eqb-true, Option, Some, None, Result, Ok, Err, List, [], map, length}
-use Rattle.std.specs.FinMap.{get}
+use Rattle.std.proofs.Common.{◌≡◌, ◌≢◌, ◌≤◌, ◌<◌, ◌+◌, ◌-◌, ◌*◌, ℕ, refl, sym, ap, ◌∙◌, subst, arith, Bool, true, false, if◌then◌else◌, nat_eq, ltb-true, eqb-true, Option, Some, None, Ok, Err, List, [], map, length}
 use Rattle.al_base.specs.declared.account.Status.TheVariants.{NotParticipating}
 use Rattle.al_base.specs.declared.address.Address.{Address}
 use Rattle.al_base.specs.declared.key.Key.{Key}
 use Rattle.al_base.specs.declared.key.Key.TheVariants as key
-use Rattle.al_block.specs.declared.header.Header.{Header}
 use Rattle.al_block.specs.declared.header.Field.{Field}
 use Rattle.al_block.specs.declared.header.Field.TheVariants as field
 use Rattle.al_block.specs.declared.block.Block.{Block}
@@ -17,16 +15,15 @@ use Rattle.al_rows.specs.declared.account.AccountRow.{AccountRow}
 use Rattle.al_rows.specs.declared.row.Row.{Row}
 use Rattle.al_rows.specs.declared.row.Row.TheVariants as row
 use Rattle.al_rows.specs.Finite.{total}
-use Rattle.al_rows.specs.Rows.{RowMap, bare, account, account_in, set_account, unless_zero, has_params}
+use Rattle.al_rows.specs.Rows.{RowMap, bare, account, account_in, set_account, unless_zero}
 use Rattle.al_moves.specs.declared.rule.Rule.{Rule}
-use Rattle.al_moves.specs.Money.{money, units, counts}
-use Rattle.al_eval.specs.declared.before.Before.{Before}
+use Rattle.al_moves.specs.Money.{money}
 use Rattle.al_eval.specs.declared.tail.Entry.{Entry}
 use Rattle.al_eval.specs.Past.{entry_of}
 use Rattle.al_eval.specs.Steps.{broken, pool_short, rewards_of, header_checks, rewards_checks, owed_by, counter_fault}
-use Rattle.al_eval.specs.State.{State, before_of, counts_in, after, stamped, step}
-use Rattle.al_eval.specs.Sound.{Sound, CountsAgree, ResourcesAgree, StepIsSound, same_kind, holding_of, issued_of, owned, boxes_of, box_bytes_of, assets_held_in, assets_created_in, apps_created_in, apps_opted_in, extra_pages_in, uints_in, byte_slices_in}
-use Rattle.al_eval.proofs.Chains.{IsPassed, BlockIs, IsFairAt, is_short, after_pool, items_of, items_are, bare_stamped, step_taken, step_refused}
+use Rattle.al_eval.specs.State.{State, before_of, counts_in, after, step}
+use Rattle.al_eval.specs.Sound.{Sound, CountsAgree, ResourcesAgree, StepIsSound, holding_of, issued_of, owned, boxes_of, box_bytes_of, assets_held_in, assets_created_in, apps_created_in, apps_opted_in, extra_pages_in, uints_in, byte_slices_in}
+use Rattle.al_eval.proofs.Chains.{IsPassed, IsFairAt, is_short, after_pool, items_of, items_are, bare_stamped, step_taken, step_refused}
 use Rattle.al_eval.proofs.Pools.{CanPay, due_until, can_pay}
 use Rattle.al_eval.proofs.Steadies.{Keeps, AllBased, IsForOthers, counts_of,  at_set, at_unless, no_zero, stays_set, keeps_account, keeps_on}
 use Rattle.al_eval.proofs.Calms.{IsCalm, items_calm}

@@ -3,9 +3,7 @@ use Rattle.std.proofs.Common.{◌≡◌, ◌≤◌, ◌+◌, ◌-◌, ℕ, refl,
 use Rattle.std.proofs.Math.Bool.{and_assoc}
 use Rattle.std.specs.FinMap.{get}
 use Rattle.std.specs.BTreeMap.{is_at}
-use Rattle.al_base.specs.declared.account.Special.{Special}
-use Rattle.al_base.specs.declared.account.Status.{Status}
-use Rattle.al_base.specs.declared.account.Status.TheVariants.{Offline, Online, NotParticipating}
+use Rattle.al_base.specs.declared.account.Status.TheVariants.{Offline, NotParticipating}
 use Rattle.al_base.specs.declared.address.Address.{Address}
 use Rattle.al_base.specs.declared.key.Key.{Key}
 use Rattle.al_base.specs.declared.key.Key.TheVariants as key
@@ -25,7 +23,7 @@ use Rattle.al_txn.specs.declared.body.Pay.{Pay}
 use Rattle.al_txn.specs.declared.chain.Chain.{Chain}
 use Rattle.al_txn.specs.declared.txn.Txn.{Txn}
 use Rattle.al_moves.specs.declared.rule.Rule.{Rule}
-use Rattle.al_moves.specs.Moves.{then_do, same_address, credited, earned, put_account, given, taken, give, take_in, moved, has_no_counts, closed_at, closed, paid_amount, paid_close, paid, rekeyed, checked, unless_refused, first_shortfall, of_account, too_little}
+use Rattle.al_moves.specs.Moves.{then_do, same_address, credited, earned, put_account, give, take_in, moved, has_no_counts, closed_at, closed, paid_amount, paid_close, paid, rekeyed, unless_refused, first_shortfall, of_account, too_little}
 use Rattle.al_moves.proofs.Overlays.{get-set, same_key}
 use Rattle.al_moves.proofs.Monies.{same_is}
 use Rattle.al_eval.specs.Steps.{done_by, applied}
