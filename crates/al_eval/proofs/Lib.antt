@@ -10,6 +10,7 @@ pub mod Steadies
 pub mod Calms
 pub mod Rises
 pub mod Sounds
+pub mod Firsts
 pub mod Starts
 pub mod Exclusive
 pub mod Once

@@ -35,7 +35,7 @@ none_if false f e = absurd (let x : ◌≡◌ {A = Option Field} (Some f) None =
 
 -- ---- what rows agree in where resources, boxes and counts are kept
 
-resources_agree : (old new level : ℕ) (m n : RowMap) → Keeps level m n → old ≤ new → ResourcesAgree old m → ResourcesAgree new n
+pub resources_agree : (old new level : ℕ) (m n : RowMap) → Keeps level m n → old ≤ new → ResourcesAgree old m → ResourcesAgree new n
 resources_agree old new level m n k more h = record {
   given = λ who id r e. (let l = h.given who id r (sym (k.resources who id) ∙ e) in omega arith);
   kinds = λ a b id r t e f. h.kinds a b id r t (sym (k.resources a id) ∙ e) (sym (k.resources b id) ∙ f);
@@ -46,7 +46,7 @@ resources_agree old new level m n k more h = record {
 count_agrees : (level : ℕ) (m n : RowMap) (k : Keeps level m n) (who : Address) (f : AccountRow → ℕ) (w : Key → Row → ℕ) → IsForOthers w → f (counts_of (account m who)) ≡ total w m → f (counts_of (account n who)) ≡ total w n
 count_agrees level m n k who f w is h = ap f (k.counts who) ∙ h ∙ sym (k.sums w is)
 
-counts_agree : (level : ℕ) (m n : RowMap) (who : Address) → Keeps level m n → CountsAgree m who → CountsAgree n who
+pub counts_agree : (level : ℕ) (m n : RowMap) (who : Address) → Keeps level m n → CountsAgree m who → CountsAgree n who
 counts_agree level m n who k h = record {
   assets_held = count_agrees level m n k who (λ a. a.assets_held) (owned who assets_held_in) (λ _ _. refl) h.assets_held;
   assets_created = count_agrees level m n k who (λ a. a.assets_created) (owned who assets_created_in) (λ _ _. refl) h.assets_created;
