@@ -297,26 +297,14 @@ block_is s units past b m =
 
 -- ---- steps
 
-step_ok : (s t : State) (b : Block) (due : Result RowMap Refusal) → then_do due (λ m. Ok (after s b m)) ≡ Ok t → (n : RowMap) × (due ≡ Ok n) × (after s b n ≡ t)
+-- a step that is taken, or refused, is that of its rows
+pub step_ok : (s t : State) (b : Block) (due : Result RowMap Refusal) → then_do due (λ m. Ok (after s b m)) ≡ Ok t → (n : RowMap) × (due ≡ Ok n) × (after s b n ≡ t)
 step_ok s t b (Ok n) e = (n, refl, (let x : ◌≡◌ {A = Result State Refusal} (Ok (after s b n)) (Ok t) = e in let y : after s b n ≡ t = cc in y))
 step_ok s t b (Err r) e = absurd (let x : ◌≡◌ {A = Result State Refusal} (Err r) (Ok t) = e in cc)
 
-step_err : (s : State) (b : Block) (due : Result RowMap Refusal) (r : Refusal) → then_do due (λ m. Ok (after s b m)) ≡ Err r → due ≡ Err r
+pub step_err : (s : State) (b : Block) (due : Result RowMap Refusal) (r : Refusal) → then_do due (λ m. Ok (after s b m)) ≡ Err r → due ≡ Err r
 step_err s b (Ok n) r e = absurd (let x : ◌≡◌ {A = Result State Refusal} (Ok (after s b n)) (Err r) = e in cc)
 step_err s b (Err q) r e = let x : ◌≡◌ {A = Result State Refusal} (Err q) (Err r) = e in let y : q ≡ r = cc in ap Err y
-
--- how a step comes to a state, or to a refusal
-pub step_taken : (s t : State) (b : Block) → step s b ≡ Ok t → (n : RowMap) × BlockIs (before_of s) (all_units (counts_in s)) (map entry_of s.past) b (bare s.rows) (Ok n) × (after s b n ≡ t)
-unfolding step
-step_taken s t b e =
-    let h = step_ok s t b (block_rows (before_of s) (all_units (counts_in s)) (map entry_of s.past) b (bare s.rows)) e in
-    (h.0, subst (BlockIs (before_of s) (all_units (counts_in s)) (map entry_of s.past) b (bare s.rows)) h.1 (block_is (before_of s) (all_units (counts_in s)) (map entry_of s.past) b (bare s.rows)), h.2)
-
-pub step_refused : (s : State) (b : Block) (r : Refusal) → step s b ≡ Err r → BlockIs (before_of s) (all_units (counts_in s)) (map entry_of s.past) b (bare s.rows) (Err r)
-unfolding step
-step_refused s b r e =
-    subst (BlockIs (before_of s) (all_units (counts_in s)) (map entry_of s.past) b (bare s.rows)) (step_err s b (block_rows (before_of s) (all_units (counts_in s)) (map entry_of s.past) b (bare s.rows)) r e)
-    (block_is (before_of s) (all_units (counts_in s)) (map entry_of s.past) b (bare s.rows))
 
 -- what else a block leaves
 pub after_step : (s t : State) (b : Block) → step s b ≡ Ok t → (t.header ≡ b.header) × (t.chain ≡ s.chain) × (t.past ≡ s.past ++ map (λ i. i.txn) b.items)

@@ -20,9 +20,9 @@ use Rattle.al_rows.specs.Rows.{RowMap, same_status, account, account_in, set_acc
 use Rattle.al_rows.proofs.Keys.{keys_total, exact_keys}
 use Rattle.al_rows.proofs.Maps.{total-remove, total-same, total-plus, weight-le-total}
 use Rattle.al_moves.specs.Moves.{share_of}
-use Rattle.al_moves.specs.Money.{worth, money, units, units_at, counts}
+use Rattle.al_moves.specs.Money.{IsExact, worth, money, units, units_at, counts}
 use Rattle.al_moves.proofs.Overlays.{get-set, same_key}
-use Rattle.al_moves.proofs.Monies.{pending_apart, weight_account, money_set, money_raised}
+use Rattle.al_moves.proofs.Monies.{pending_apart, weight_account, worth-le-money, money_set, money_raised}
 use Rattle.al_eval.proofs.Steadies.{AllBased}
 
 -- ---- all units
@@ -101,14 +101,25 @@ module _ (level rise : ℕ) (m : RowMap) (pool : Address) where
       let least = pending_least level (share_of r) earns low in
       omega arith
 
+  -- so each account's rewards are counted exactly at the higher level
+  pub exact_rows : money level m ≤ max_balance → AllBased level m → (account m pool).status ≡ NotParticipating → all_earn + least_pool ≤ (account m pool).balance
+      → (k : Key) (r : AccountRow) → get m k ≡ Some (row.Account r) → IsExact level rise r
+  exact_rows few based apart enough k r is earns = (based k r is earns, earns_less k r is earns (based k r is earns) few apart enough)
+
+  -- the same rows are worth more by what all units earn, which is at most what the pool has
+  pub money_before : money level m ≤ max_balance → AllBased level m → (account m pool).status ≡ NotParticipating → all_earn + least_pool ≤ (account m pool).balance
+      → (money (level + rise) m ≡ money level m + all_earn) × (all_earn ≤ money level m)
+  money_before few based apart enough =
+      (money_raised level rise m (exact_rows few based apart enough) ∙ ap (λ n. money level m + n) (mul_comm rise (total (λ k r. units r) m)), omega (arith, worth-le-money level m pool))
+
   -- the rows after the pool paid are worth at the higher level what those before were
   pub money_risen : money level m ≤ max_balance → AllBased level m → (account m pool).status ≡ NotParticipating → all_earn + least_pool ≤ (account m pool).balance
       → money (level + rise) (set_account m pool (record (account m pool) { balance = (account m pool).balance - all_earn })) ≡ money level m
   money_risen few based apart enough =
       let p = account m pool in
       let q : AccountRow = record p { balance = p.balance - all_earn } in
-      let raised = money_raised level rise m (λ k r is earns. (based k r is earns, earns_less k r is earns (based k r is earns) few apart enough)) in
+      let raised = (money_before few based apart enough).0 in
       let set = money_set (level + rise) m pool q in
       let old = pending_apart (level + rise) (share_of p) (ap is_apart apart) in
       let new = pending_apart (level + rise) (share_of q) (ap is_apart apart) in
-      omega (arith, mul_comm rise (total (λ k r. units r) m))
+      omega arith

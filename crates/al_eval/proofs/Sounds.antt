@@ -1,5 +1,6 @@
 -- A block leads from a sound state to a sound state.
-use Rattle.std.proofs.Common.{◌≡◌, ◌≢◌, ◌≤◌, ◌<◌, ◌+◌, ◌-◌, ◌*◌, ℕ, refl, sym, ap, ◌∙◌, subst, arith, Bool, true, false, if◌then◌else◌, nat_eq, ltb-true, eqb-true, Option, Some, None, Ok, Err, List, [], map, length}
+use Rattle.std.proofs.Common.{◌≡◌, ◌≢◌, ◌≤◌, ◌<◌, ◌+◌, ◌-◌, ◌*◌, ℕ, refl, sym, ap, ◌∙◌, subst, arith, Bool, true, false, if◌then◌else◌, nat_eq, ltb-true, eqb-true, Option, Some, None, Result, Ok, Err, List, [], map, length}
+use Rattle.std.specs.FinMap.{get}
 use Rattle.al_base.specs.declared.account.Status.TheVariants.{NotParticipating}
 use Rattle.al_base.specs.declared.address.Address.{Address}
 use Rattle.al_base.specs.declared.key.Key.{Key}
@@ -17,17 +18,17 @@ use Rattle.al_rows.specs.declared.row.Row.TheVariants as row
 use Rattle.al_rows.specs.Finite.{total}
 use Rattle.al_rows.specs.Rows.{RowMap, bare, account, account_in, set_account, unless_zero}
 use Rattle.al_moves.specs.declared.rule.Rule.{Rule}
-use Rattle.al_moves.specs.Money.{money}
+use Rattle.al_moves.specs.Money.{money, units, IsExact}
 use Rattle.al_eval.specs.declared.tail.Entry.{Entry}
 use Rattle.al_eval.specs.Past.{entry_of}
-use Rattle.al_eval.specs.Steps.{broken, pool_short, rewards_of, header_checks, rewards_checks, owed_by, counter_fault}
+use Rattle.al_eval.specs.Steps.{Refusal, block_rows, broken, pool_short, rewards_of, header_checks, rewards_checks, owed_by, counter_fault}
 use Rattle.al_eval.specs.State.{State, before_of, counts_in, after, step}
 use Rattle.al_eval.specs.Sound.{Sound, CountsAgree, ResourcesAgree, StepIsSound, holding_of, issued_of, owned, boxes_of, box_bytes_of, assets_held_in, assets_created_in, apps_created_in, apps_opted_in, extra_pages_in, uints_in, byte_slices_in}
-use Rattle.al_eval.proofs.Chains.{IsPassed, IsFairAt, is_short, after_pool, items_of, items_are, bare_stamped, step_taken, step_refused}
+use Rattle.al_eval.proofs.Chains.{IsPassed, BlockIs, IsFairAt, is_short, after_pool, items_of, items_are, bare_stamped, block_is, step_ok, step_err}
 use Rattle.al_eval.proofs.Pools.{CanPay, due_until, can_pay}
-use Rattle.al_eval.proofs.Steadies.{Keeps, AllBased, IsForOthers, counts_of,  at_set, at_unless, no_zero, stays_set, keeps_account, keeps_on}
+use Rattle.al_eval.proofs.Steadies.{Keeps, AllBased, IsForOthers, counts_of, at_set, at_unless, no_zero, stays_set, keeps_account, keeps_on}
 use Rattle.al_eval.proofs.Calms.{IsCalm, items_calm}
-use Rattle.al_eval.proofs.Rises.{units_counted, money_risen}
+use Rattle.al_eval.proofs.Rises.{units_counted, exact_rows, money_before, money_risen}
 
 none_if : (b : Bool) (f : Field) → (if b then None else Some f) ≡ None → b ≡ true
 none_if true f e = refl
@@ -110,13 +111,29 @@ module _ (s : State) (b : Block) (sound : Sound s) where
 
   -- ---- the pool pays
 
+  units_are : all ≡ total (λ k r. units r) rows
+  units_are = units_counted s.header.level rows
+
+  level_is : IsPassed (before_of s) all b rows → b.header.level ≡ s.header.level + rise
+  level_is h = omega (arith, (pays h).rises)
+
+  enough : IsPassed (before_of s) all b rows → total (λ k r. units r) rows * rise + least_pool ≤ purse
+  enough h = subst (λ n. n * rise + least_pool ≤ purse) units_are (pays h).enough
+
+  exact : IsPassed (before_of s) all b rows → (k : Key) (r : AccountRow) → get rows k ≡ Some (row.Account r) → IsExact s.header.level rise r
+  exact h = exact_rows s.header.level rise rows pool sound.money sound.bases sound.pool (enough h)
+
+  money_raised : IsPassed (before_of s) all b rows → (money b.header.level rows ≡ money s.header.level rows + all * rise) × (all * rise ≤ money s.header.level rows)
+  money_raised h =
+      let before = money_before s.header.level rise rows pool sound.money sound.bases sound.pool (enough h) in
+      let owed : all * rise ≡ total (λ k r. units r) rows * rise = ap (λ n. n * rise) units_are in
+      (ap (λ n. money n rows) (level_is h) ∙ before.0 ∙ ap (λ n. money s.header.level rows + n) (sym owed), omega (arith, before.1))
+
   money_paid : IsPassed (before_of s) all b rows → money b.header.level paid ≡ money s.header.level rows
   money_paid h =
-      let units_are = units_counted s.header.level rows in
-      let up : b.header.level ≡ s.header.level + rise = omega (arith, (pays h).rises) in
-      ap (λ n. money n paid) up
+      ap (λ n. money n paid) (level_is h)
       ∙ ap (λ n. money (s.header.level + rise) (set_account rows pool (record (account rows pool) { balance = purse - n * rise }))) units_are
-      ∙ money_risen s.header.level rise rows pool sound.money sound.bases sound.pool (subst (λ n. n * rise + least_pool ≤ purse) units_are (pays h).enough)
+      ∙ money_risen s.header.level rise rows pool sound.money sound.bases sound.pool (enough h)
 
   abbrev poorer : AccountRow
   poorer = record (account rows pool) { balance = purse - all * rise }
@@ -177,25 +194,76 @@ module _ (s : State) (b : Block) (sound : Sound s) where
         fund = subst (λ m. due_until (rewards_of b.header) b.header.round ≤ (account m pool).balance) (new_rows n) (omega (arith, p.still, pool_paid_is.1, gains.1));
       }
 
--- ---- steps
+-- ---- blocks
 
--- a step that is taken leads to a sound state
-pub step_sound : (s t : State) (b : Block) → Sound s → step s b ≡ Ok t → Sound t
-step_sound s t b sound e = let h = step_taken s t b e in subst Sound h.2 (sound_after s b sound h.0 h.1.0 h.1.2 h.1.3)
+-- what is due of a block after a state
+abbrev pub due_of : State → Block → Result RowMap Refusal
+due_of s b = block_rows (before_of s) (all_units (counts_in s)) (map entry_of s.past) b (bare s.rows)
 
--- with the same money
-pub step_keeps : (s t : State) (b : Block) → Sound s → step s b ≡ Ok t → money t.header.level (bare t.rows) ≡ money s.header.level (bare s.rows)
-step_keeps s t b sound e =
-    let h = step_taken s t b e in
-    ap (λ (u : State). money u.header.level (bare u.rows)) (sym h.2) ∙ ap (money b.header.level) (sym (new_rows s b sound h.0)) ∙ money_is s b sound h.0 h.1.0 h.1.2
+-- what all units earn by a block
+abbrev pub owed_of : State → Block → ℕ
+owed_of s b = owed_by (before_of s) (all_units (counts_in s)) b.header
+
+how_due : (s : State) (b : Block) (r : Result RowMap Refusal) → due_of s b ≡ r → BlockIs (before_of s) (all_units (counts_in s)) (map entry_of s.past) b (bare s.rows) r
+how_due s b r e = subst (BlockIs (before_of s) (all_units (counts_in s)) (map entry_of s.past) b (bare s.rows)) e (block_is (before_of s) (all_units (counts_in s)) (map entry_of s.past) b (bare s.rows))
+
+-- a block leads from a sound state to these rows
+pub record Leads (s : State) (b : Block) (n : RowMap) : Type 0 where
+  pub rises : s.header.level ≤ b.header.level
+  pub exact : (k : Key) (r : AccountRow) → get (bare s.rows) k ≡ Some (row.Account r) → IsExact s.header.level (b.header.level - s.header.level) r
+  pub enough : owed_of s b + least_pool ≤ (account (bare s.rows) s.chain.special.pool).balance
+  pub raised : money b.header.level (bare s.rows) ≡ money s.header.level (bare s.rows) + owed_of s b
+  pub most : money b.header.level (bare s.rows) ≤ 2 * max_balance
+  pub same : money b.header.level n ≡ money s.header.level (bare s.rows)
+  pub within : money b.header.level n ≤ max_balance
+  pub keeps : Keeps b.header.level (bare s.rows) n
+  pub sound : Sound (after s b n)
+
+pub block_leads : (s : State) (b : Block) (n : RowMap) → Sound s → due_of s b ≡ Ok n → Leads s b n
+block_leads s b n sound e =
+    let h = how_due s b (Ok n) e in
+    let p = pays s b sound h.0 in
+    let before = money_raised s b sound h.0 in
+    let same = money_is s b sound n h.0 h.2 in
+    record {
+      rises = p.rises;
+      exact = exact s b sound h.0;
+      enough = p.enough;
+      raised = before.0;
+      most = omega (arith, before.0, before.1, sound.money);
+      same = same;
+      within = omega (arith, same, sound.money);
+      keeps = keeps s b sound n h.2;
+      sound = sound_after s b sound n h.0 h.2 h.3;
+    }
 
 -- the pool is never short
-pub step_pays : (s : State) (b : Block) (pool owed : ℕ) → Sound s → step s b ≢ Err (pool_short pool owed)
-step_pays s b pool owed sound e = let h = step_refused s b (pool_short pool owed) e in not_short s b sound h.0 h.1
+pub block_pays : (s : State) (b : Block) (has owed : ℕ) → Sound s → due_of s b ≢ Err (pool_short has owed)
+block_pays s b has owed sound e = let h = how_due s b (Err (pool_short has owed)) e in not_short s b sound h.0 h.1
 
 -- no balance passes the most
+pub block_within : (s : State) (b : Block) (place : ℕ) (rule : Rule) → Sound s → due_of s b ≡ Err (broken place rule) → rule.number ≢ 41
+block_within s b place rule sound e = let h = how_due s b (Err (broken place rule)) e in broken_is s b sound place rule h.0 h.2
+
+-- ---- steps
+
+pub step_sound : (s t : State) (b : Block) → Sound s → step s b ≡ Ok t → Sound t
+unfolding step
+step_sound s t b sound e = let h = step_ok s t b (due_of s b) e in subst Sound h.2 (block_leads s b h.0 sound h.1).sound
+
+pub step_keeps : (s t : State) (b : Block) → Sound s → step s b ≡ Ok t → money t.header.level (bare t.rows) ≡ money s.header.level (bare s.rows)
+unfolding step
+step_keeps s t b sound e =
+    let h = step_ok s t b (due_of s b) e in
+    ap (λ (u : State). money u.header.level (bare u.rows)) (sym h.2) ∙ ap (money b.header.level) (bare_stamped b.header.round s.rows h.0) ∙ (block_leads s b h.0 sound h.1).same
+
+pub step_pays : (s : State) (b : Block) (has owed : ℕ) → Sound s → step s b ≢ Err (pool_short has owed)
+unfolding step
+step_pays s b has owed sound e = block_pays s b has owed sound (step_err s b (due_of s b) (pool_short has owed) e)
+
 pub step_within : (s : State) (b : Block) (place : ℕ) (rule : Rule) → Sound s → step s b ≡ Err (broken place rule) → rule.number ≢ 41
-step_within s b place rule sound e = let h = step_refused s b (broken place rule) e in broken_is s b sound place rule h.0 h.2
+unfolding step
+step_within s b place rule sound e = block_within s b place rule sound (step_err s b (due_of s b) (broken place rule) e)
 
 pub step_is_sound : StepIsSound
 step_is_sound = record { sound = step_sound; keeps = step_keeps; pays = step_pays; within = step_within }
