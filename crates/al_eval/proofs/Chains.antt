@@ -1,4 +1,4 @@
--- What a block's changes lead to, and that no block makes or loses money.
+-- What a block's changes lead to, that its transactions make or lose no money, and how it comes to what is due.
 use Rattle.std.proofs.Common.{◌≡◌, ◌≢◌, refl, sym, ap, ◌∙◌, subst, ℕ, ◌+◌, ◌-◌, ◌≤◌, List, [], ◌∷◌, ◌++◌, Result, Ok, Err, Option, Some, None, Bool, true, false, if◌then◌else◌, nat_lt, ◌||◌, option_map, arith, IfSome, map, length, take, replicate, ◌*◌, zero, suc}
 use Rattle.std.specs.Option.{option_or}
 use Rattle.std.specs.List.{AllByRecursion}
@@ -224,7 +224,7 @@ items_are c round level past place seen left (i ∷ is) m =
     (placed level place k (transacted c round level past seen i k) (transacted_is c round level past seen i k))
     (λ n _. items_are c round level past (place + 1) (seen ++ entry_of i.txn ∷ []) (left_after left (i ∷ is)) is n))
 
--- ---- the level of a block that passes its header
+-- ---- what a block has passed
 
 pub all_pass : (cs : List (Bool × Field)) → first_fault cs ≡ None → AllByRecursion (λ c. c.0 ≡ true) cs
 all_pass [] h = tt
@@ -234,9 +234,7 @@ all_pass (c ∷ cs) h = by_test c.0 refl h (all_pass cs)
     by_test true e k rest = (e, rest k)
     by_test false e k rest = absurd (let x : ◌≡◌ {A = Option Field} (Some c.1) None = k in cc)
 
--- ---- what a block has passed
-
--- the tests of the header, and the pool has enough
+-- the tests of the header and of its rewards
 pub record IsPassed (s : Before) (units : ℕ) (b : Block) (m : RowMap) : Type 0 where
   pub header : AllByRecursion (λ c. c.0 ≡ true) (header_checks s b.header)
   pub rewards : AllByRecursion (λ c. c.0 ≡ true) (rewards_checks (rewards_due s b.header.round units m) b.header)

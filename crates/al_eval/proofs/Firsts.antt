@@ -55,6 +55,7 @@ bare_set m k o = same_map keys_total exact_keys (bare (set_at m k (stored_at 0 o
     row_back : (o : Option Row) → option_map (λ (s : Stored). s.row) (stored_at 0 o) ≡ o
     row_back None = refl
     row_back (Some r) = refl
+
     by_test : (b : Bool) (q : Key) (o : Option Row) → option_map (λ (s : Stored). s.row) (cond b (stored_at 0 o) (get m q)) ≡ cond b o (option_map (λ (s : Stored). s.row) (get m q))
     by_test true q o = row_back o
     by_test false q o = refl
@@ -200,6 +201,7 @@ begun_special who m (a ∷ xs) h e = by_test (same_address a.address who) refl e
     one_is : (b c : Bool) → (b || c) ≡ true → c ≡ false → b ≡ true
     one_is true c e f = refl
     one_is false c e f = sym f ∙ e
+
     by_test : (b : Bool) → same_address a.address who ≡ b → ((b && (a.row.status == 2)) || has_special who xs) ≡ true
         → (has_special who xs ≡ true → IsApart (balance_of who xs) (account (seated (set_account m a.address (first_row a).row) (map first_row xs)) who)) → IsApart (if b then a.row.balance else balance_of who xs) (account (seated (set_account m a.address (first_row a).row) (map first_row xs)) who)
     by_test true t e more =

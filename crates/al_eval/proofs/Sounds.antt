@@ -18,7 +18,7 @@ use Rattle.al_rows.specs.declared.row.Row.TheVariants as row
 use Rattle.al_rows.specs.Finite.{total}
 use Rattle.al_rows.specs.Rows.{RowMap, bare, account, account_in, set_account, unless_zero}
 use Rattle.al_moves.specs.declared.rule.Rule.{Rule}
-use Rattle.al_moves.specs.Money.{money, units, IsExact}
+use Rattle.al_moves.specs.Money.{money, units, counts, IsExact}
 use Rattle.al_eval.specs.declared.tail.Entry.{Entry}
 use Rattle.al_eval.specs.Past.{entry_of}
 use Rattle.al_eval.specs.Steps.{Refusal, block_rows, broken, pool_short, rewards_of, header_checks, rewards_checks, owed_by, counter_fault}
@@ -244,6 +244,10 @@ block_pays s b has owed sound e = let h = how_due s b (Err (pool_short has owed)
 -- no balance passes the most
 pub block_within : (s : State) (b : Block) (place : ℕ) (rule : Rule) → Sound s → due_of s b ≡ Err (broken place rule) → rule.number ≢ 41
 block_within s b place rule sound e = let h = how_due s b (Err (broken place rule)) e in broken_is s b sound place rule h.0 h.2
+
+-- the counts of the state after it are those of these rows
+pub counts_after : (s : State) (b : Block) (n : RowMap) → counts_in (after s b n) ≡ counts b.header.level n
+counts_after s b n = ap (counts b.header.level) (bare_stamped b.header.round s.rows n)
 
 -- ---- steps
 
