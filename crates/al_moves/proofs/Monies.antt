@@ -51,7 +51,7 @@ pub pending_apart : (level : ℕ) (s : Share) → is_apart s.status ≡ true →
 unfolding pending
 pending_apart level s e = ap (λ b. cond (b || nat_le level s.base) 0 (min max_balance (s.balance / 1000000 * (level - s.base)))) e
 
-pub worth_credited : (level : ℕ) (r : AccountRow) → (credited level r).balance ≡ worth level (row.Account r)
+worth_credited : (level : ℕ) (r : AccountRow) → (credited level r).balance ≡ worth level (row.Account r)
 worth_credited level r = by_test (is_apart r.status) refl
   where
     by_test : (b : Bool) → is_apart r.status ≡ b → (if b then r else record r { balance = r.balance + earned level r; base = level }).balance ≡ r.balance + earned level r
@@ -87,7 +87,7 @@ worth_zero level r h =
 abbrev each : ℕ → Key → Row → ℕ
 each level k r = worth level r
 
-pub nothing_worth : (level : ℕ) → worth level (row.Account no_account) ≡ 0
+nothing_worth : (level : ℕ) → worth level (row.Account no_account) ≡ 0
 nothing_worth level = omega (arith, empty_pending level (share_of no_account) refl)
 
 pub weight_account : (level : ℕ) (who : Address) (o : Option Row) → weight (each level) (key.Account who) o ≡ worth level (row.Account (account_in o))
@@ -124,7 +124,7 @@ worth-le-money level m who = omega (arith, money_remove level m who)
 pub same_is : (a b : Address) → is_at (key_cmp (key.Account a)) (key.Account b) ≡ same_address a b
 same_is a b = sym (lists_ties nat_cmp unsigned_ties a.0 b.0)
 
-pub account-set : (m : RowMap) (a b : Address) (o : Option Row) → account (set_at m (key.Account a) o) b ≡ account_in (cond (same_address a b) o (get m (key.Account b)))
+account-set : (m : RowMap) (a b : Address) (o : Option Row) → account (set_at m (key.Account a) o) b ≡ account_in (cond (same_address a b) o (get m (key.Account b)))
 account-set m a b o = ap account_in (get-set m (key.Account a) o (key.Account b) ∙ ap (λ c. cond c o (get m (key.Account b))) (same_is a b))
 
 -- ---- the steps
@@ -180,24 +180,24 @@ moved_is level from to amount m = then_fair level m amount (give level from amou
 
 -- ---- what a step that was not refused has left
 
-pub then_ok : (due : Result RowMap Rule) (f : RowMap → Result RowMap Rule) (n : RowMap) → then_do due f ≡ Ok n → (k : RowMap) × (due ≡ Ok k) × (f k ≡ Ok n)
+then_ok : (due : Result RowMap Rule) (f : RowMap → Result RowMap Rule) (n : RowMap) → then_do due f ≡ Ok n → (k : RowMap) × (due ≡ Ok k) × (f k ≡ Ok n)
 then_ok (Ok k) f n e = (k, refl, e)
 then_ok (Err r) f n e = absurd (let x : Err r ≡ Ok n = e in cc)
 
-pub pick_ok : (b : Bool) (r : Rule) (x : Result RowMap Rule) (n : RowMap) → (if b then Err r else x) ≡ Ok n → x ≡ Ok n
+pick_ok : (b : Bool) (r : Rule) (x : Result RowMap Rule) (n : RowMap) → (if b then Err r else x) ≡ Ok n → x ≡ Ok n
 pick_ok true r x n e = absurd (let y : Err r ≡ Ok n = e in cc)
 pick_ok false r x n e = e
 
-pub ok_same : (m n : RowMap) → ◌≡◌ {A = Result RowMap Rule} (Ok m) (Ok n) → m ≡ n
+ok_same : (m n : RowMap) → ◌≡◌ {A = Result RowMap Rule} (Ok m) (Ok n) → m ≡ n
 ok_same m n e = cc
 
-pub put_ok : (m : RowMap) (who : Address) (r : AccountRow) (n : RowMap) → put_account m who r ≡ Ok n → set_account m who r ≡ n
+put_ok : (m : RowMap) (who : Address) (r : AccountRow) (n : RowMap) → put_account m who r ≡ Ok n → set_account m who r ≡ n
 put_ok m who r n e = ok_same _ _ (pick_ok (nat_lt max_balance r.balance) (of_account 41 who) (Ok (set_account m who r)) n e)
 
-pub worth_kept : (level : ℕ) (who : Address) (r : AccountRow) → worth level (row.Account (account_in (unless_zero (row.Account r)))) ≡ worth level (row.Account r)
+worth_kept : (level : ℕ) (who : Address) (r : AccountRow) → worth level (row.Account (account_in (unless_zero (row.Account r)))) ≡ worth level (row.Account r)
 worth_kept level who r = sym (weight_account level who (unless_zero (row.Account r))) ∙ weight_kept level who r
 
-pub same_itself : (a : Address) → same_address a a ≡ true
+same_itself : (a : Address) → same_address a a ≡ true
 same_itself a = nat_list_eq_equiv.refl a.0
 
 -- what gives all that it has is worth nothing
@@ -236,11 +236,11 @@ fair_then level m (Ok n) f h g = after (f n) (g n refl)
     after (Err r) e = λ l. e (omega arith)
 fair_then level m (Err r) f h g = h
 
-pub fair_if : (level : ℕ) (m : RowMap) (b : Bool) (x y : Result RowMap Rule) → (b ≡ true → IsFair level m x) → (b ≡ false → IsFair level m y) → IsFair level m (if b then x else y)
+fair_if : (level : ℕ) (m : RowMap) (b : Bool) (x y : Result RowMap Rule) → (b ≡ true → IsFair level m x) → (b ≡ false → IsFair level m y) → IsFair level m (if b then x else y)
 fair_if level m true x y p q = p refl
 fair_if level m false x y p q = q refl
 
-pub or_first : (a b : Bool) → (a || b) ≡ false → a ≡ false
+or_first : (a b : Bool) → (a || b) ≡ false → a ≡ false
 or_first true b h = h
 or_first false b h = refl
 
@@ -311,7 +311,7 @@ moves_are_fair = record { moved = moved_is; paid = paid_is; rekeyed = rekeyed_is
 
 -- ---- the level rises
 
-pub pending_is : (level : ℕ) (s : Share) → is_apart s.status ≡ false → s.base ≤ level → s.balance / 1000000 * (level - s.base) ≤ max_balance → pending level s ≡ s.balance / 1000000 * (level - s.base)
+pending_is : (level : ℕ) (s : Share) → is_apart s.status ≡ false → s.base ≤ level → s.balance / 1000000 * (level - s.base) ≤ max_balance → pending level s ≡ s.balance / 1000000 * (level - s.base)
 unfolding pending
 pending_is level s apart low few = ap (λ b. cond (b || nat_le level s.base) 0 (min max_balance (s.balance / 1000000 * (level - s.base)))) apart ∙ by_test (nat_le level s.base) refl
   where
