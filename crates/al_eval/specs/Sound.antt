@@ -3,7 +3,8 @@ use Rattle.std.specs.Prelude.{List, ◌≡◌, ◌≢◌, ℕ, ◌+◌, ◌-◌,
 use Rattle.std.specs.declared.option.Option.{Option}
 use Rattle.std.specs.declared.option.Option.TheVariants.{None, Some}
 use Rattle.std.specs.declared.result.Result.TheVariants.{Ok, Err}
-use Rattle.std.specs.FinMap.{get}
+use Rattle.std.specs.FinMap.{get, from_entries}
+use Rattle.std.specs.BTreeMap.{BTreeMap}
 use Rattle.al_base.specs.declared.account.Status.TheVariants.{NotParticipating}
 use Rattle.al_base.specs.declared.address.Address.{Address}
 use Rattle.al_base.specs.declared.key.Key.{Key}
@@ -30,7 +31,10 @@ use Rattle.al_moves.specs.Money.{money}
 use Rattle.al_eval.specs.declared.genesis.Genesis.{Genesis}
 use Rattle.al_eval.specs.Genesis.{IsGenesis}
 use Rattle.al_eval.specs.Start.{start}
-use Rattle.al_eval.specs.State.{State, step}
+use Rattle.al_eval.specs.State.{State, step, counts_in}
+use Rattle.al_eval.specs.declared.before.Before.{Before}
+use Rattle.al_rows.specs.declared.stored.Stored.{Stored}
+use Rattle.al_txn.specs.declared.txn.Txn.{Txn}
 use Rattle.al_eval.specs.Steps.{broken, pool_short}
 
 abbrev pub one_if : Bool → ℕ
@@ -157,6 +161,17 @@ pub record Sound (s : State) : Type 0 where
 -- no application that there is, or that comes next, has the sink or the pool as its account
 abbrev pub Apart : State → Type 0
 Apart s = (app : ℕ) → app ≤ s.header.counter + 1 → (same_address (app_account app) s.chain.special.sink ≡ false) × (same_address (app_account app) s.chain.special.pool ≡ false)
+
+-- ---- what a step begins with
+
+-- the state of rows in a tree, and what is known beside them
+abbrev pub begun : Before → BTreeMap Key Stored → List Txn → State
+begun s rows past = record { chain = s.chain; header = s.header; rows = from_entries rows.entries; past = past }
+
+-- the state is sound, and the totals are those of its rows
+pub record IsSoundBefore (s : Before) (rows : BTreeMap Key Stored) (past : List Txn) : Type 0 where
+  pub sound : Sound (begun s rows past)
+  pub totals : s.totals ≡ counts_in (begun s rows past)
 
 -- ---- laws
 

@@ -24,6 +24,7 @@ use Rattle.al_txn.specs.declared.txn.Txn.{Txn}
 use Rattle.al_moves.specs.Moves.{then_do, AreChanges}
 use Rattle.al_moves.specs.Money.{counts}
 use Rattle.al_eval.specs.declared.before.Before.{Before}
+use Rattle.al_eval.specs.declared.next.Stepped.{Stepped}
 use Rattle.al_eval.specs.declared.before.EvalRefusal.{EvalRefusal}
 use Rattle.al_eval.specs.declared.before.EvalRefusal.TheVariants as answer
 use Rattle.al_eval.specs.Past.{entry_of}
@@ -87,9 +88,9 @@ abbrev pub IsPay : Body → Type 0
 IsPay (body.Pay p) = ⊤
 IsPay b = ⊥
 
--- the rows of the state that is due, or the refusal that is due
-abbrev pub Steps : {F : Type 0} → Result State Refusal → Result (BTreeMap Key Stored) (EvalRefusal F) → Type 0
-Steps due (Ok rows) = (s : State) × (due ≡ Ok s) × (s.rows ≡ from_entries rows.entries)
+-- the rows and the totals of the state that is due, or the refusal that is due
+abbrev pub Steps : {F : Type 0} → Result State Refusal → Result Stepped (EvalRefusal F) → Type 0
+Steps due (Ok n) = (s : State) × (due ≡ Ok s) × (s.rows ≡ from_entries n.rows.entries) × (n.totals ≡ counts_in s)
 Steps due (Err (answer.Broken p r)) = due ≡ Err (broken p r)
 Steps due (Err (answer.Header f)) = due ≡ Err (header f)
 Steps due (Err (answer.PoolShort p o)) = due ≡ Err (pool_short p o)

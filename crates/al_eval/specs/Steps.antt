@@ -15,6 +15,8 @@ use Rattle.al_deltas.specs.declared.delta.RoundDelta.{RoundDelta}
 use Rattle.al_block.specs.Hashes.{header_hash_of, payset_hash_of, group_size}
 use Rattle.al_rewards.specs.declared.state.RewardsState.{RewardsState}
 use Rattle.al_rewards.specs.Next.{least_pool, next_rewards}
+use Rattle.al_rewards.specs.Totals.{all_units, capped, raised}
+use Rattle.al_moves.specs.Money.{IsWithin, counts}
 use Rattle.al_rows.specs.Rows.{RowMap, same_bytes, account, set_account}
 use Rattle.al_txn.specs.declared.body.Body.{Body}
 use Rattle.al_txn.specs.declared.body.Body.TheVariants as body
@@ -249,6 +251,20 @@ pub record Runs {F T : Type 0} (tells : Bool) (due : Result RowMap Refusal) (old
   pub gives : tells ≡ true → Gives due result new.now
   pub cause : IsCounted result old.failures new.failures
 
+-- a look never refuses a block
+abbrev pub IsNoRefusal : {F T : Type 0} → Result T (EvalRefusal F) → Type 0
+IsNoRefusal (Ok x) = ⊤
+IsNoRefusal (Err (answer.View f)) = ⊤
+IsNoRefusal (Err answer.Memory) = ⊤
+IsNoRefusal (Err e) = ⊥
+
+-- a look changes no row
+pub record Sees {F T : Type 0} (tells : Bool) (old new : Worked) (result : Result T (EvalRefusal F)) : Type 0 where
+  pub fixed : IsFixed tells old new
+  pub now : tells ≡ true → new.now ≡ old.now
+  pub cause : IsCounted result old.failures new.failures
+  pub no_refusal : IsNoRefusal result
+
 -- the changes lead from the rows before to the rows that are due, or the refusal is the one that is due
 abbrev pub Evals : {F : Type 0} → Result RowMap Refusal → RowMap → Result RoundDelta (EvalRefusal F) → Type 0
 Evals due old (Ok d) = (n : RowMap) × (due ≡ Ok n) × AreChanges old n (map change_of d.changes)
@@ -263,3 +279,12 @@ pub record IsDeltaOf (h : Header) (d : RoundDelta) : Type 0 where
   pub round : d.round ≡ h.round
   pub header : d.header ≡ h
   pub hash : d.hash ≡ header_hash_of h
+
+-- the units before a block, or the greatest number of 64 bits
+abbrev pub units_before : Before → ℕ
+units_before s = capped (all_units s.totals)
+
+-- the totals of a delta are those of the rows that are due, counted anew at its level, where those before the block were, and there is not too much money to count
+abbrev pub TotalsFollow : {F : Type 0} → Result RowMap Refusal → Before → Header → RowMap → Result RoundDelta (EvalRefusal F) → Type 0
+TotalsFollow due s h old (Ok d) = (n : RowMap) → due ≡ Ok n → raised h.level s.totals ≡ counts h.level old → IsWithin h.level old → IsWithin h.level n → d.totals ≡ counts h.level n
+TotalsFollow due s h old (Err e) = ⊤

@@ -1,11 +1,12 @@
 //! The header of a block, against what is due after the block before.
 ghost use Rattle.std.specs.Prelude.{◌≡◌, ◌+◌, nat_eq, nat_le, ◌||◌, ◌&&◌, None, Option, length};
-ghost use Rattle.al_eval.specs.Steps.{first_fault, header_checks, is_in_time, recalc_due, rewards_checks};
+ghost use Rattle.al_eval.specs.Steps.{first_fault, header_checks, is_in_time, rewards_checks};
 
 use crate::Before;
 use al_block::{Field, Header};
+use al_rewards::RewardsState;
 
-/// The first header field that differs from what is due.
+/// The first header field beside rewards that differs from what is due.
 #[tactic(auto, unfolding(crate::specs::Steps::header_checks))]
 pub fn header_fault(before: &Before, h: &Header) -> Option<Field>
     ensures first { result ≡ first_fault (header_checks before.now h.now) }
@@ -31,38 +32,27 @@ pub fn header_fault(before: &Before, h: &Header) -> Option<Field>
     if h.pool != special.pool {
         return Some(Field::Rwd);
     }
-    rewards_fault(before, h)
-}
-
-// The first rewards field that differs from what is due.
-#[tactic(auto, unfolding(crate::specs::Steps::rewards_checks))]
-fn rewards_fault(before: &Before, h: &Header) -> Option<Field>
-    ensures { result ≡ first_fault (rewards_checks before.now h.now) }
-{
-    let last = &before.header;
-    if h.rate != last.rate {
-        return Some(Field::Rate);
-    }
-    if !is_recalc(before, h) {
-        return Some(Field::Rwcalr);
-    }
-    if h.residue != last.residue {
-        return Some(Field::Frac);
-    }
-    if h.level != last.level {
-        return Some(Field::Earn);
-    }
     None
 }
 
-// Whether the round of the next recalculation is the one that is due.
-fn is_recalc(before: &Before, h: &Header) -> bool
-    ensures { result ≡ nat_eq h.now.recalc (recalc_due before.now h.now.round) }
+/// The first rewards field that differs from what is due.
+#[tactic(auto, unfolding(crate::specs::Steps::rewards_checks))]
+pub fn rewards_fault(due: &RewardsState, h: &Header) -> Option<Field>
+    ensures { result ≡ first_fault (rewards_checks due.now h.now) }
 {
-    if h.round == before.header.recalc {
-        return is_sum(h.recalc, h.round, before.chain.interval);
+    if h.rate != due.rate {
+        return Some(Field::Rate);
     }
-    h.recalc == before.header.recalc
+    if h.recalc != due.recalc {
+        return Some(Field::Rwcalr);
+    }
+    if h.residue != due.residue {
+        return Some(Field::Frac);
+    }
+    if h.level != due.level {
+        return Some(Field::Earn);
+    }
+    None
 }
 
 // Whether a time may follow another.

@@ -1,5 +1,5 @@
 //! The rows after a block.
-ghost use Rattle.std.specs.Prelude.{◌≡◌, List, Option, Some, None, All, IfOk, OnOk, map, option_map, cond};
+ghost use Rattle.std.specs.Prelude.{◌≡◌, ◌≤◌, ◌^◌, List, Option, Some, None, All, IfOk, OnOk, map, option_map, cond};
 ghost use Rattle.std.specs.List.Sorted.{IsStrictlySortedBy};
 ghost use Rattle.std.specs.FinMap.{from_entries};
 ghost use Rattle.std.specs.BTreeMap.{IsOrdered, is_at};
@@ -7,17 +7,18 @@ ghost use Rattle.al_base.specs.Keys.{key_cmp};
 ghost use Rattle.al_rows.specs.Finite.{or_below};
 ghost use Rattle.al_rows.specs.Rows.{IsKept, bare};
 ghost use Rattle.al_moves.specs.Moves.{change_of};
-ghost use Rattle.al_moves.specs.Money.{money};
 ghost use Rattle.al_moves.specs.Works.{at};
 ghost use Rattle.al_txn.specs.declared.txn.Txn.{Txn};
 ghost use Rattle.al_block.specs.Hashes.{header_hash_of};
 ghost use Rattle.al_eval.specs.Past.{entry_of};
 ghost use Rattle.al_eval.specs.Next.{IsNext, stored_at};
+ghost use Rattle.al_eval.specs.Sound.{IsSoundBefore, begun};
 ghost use Rattle.al_eval.specs.State.{IsPay, Steps, step};
 
 use crate::{Before, EvalRefusal, Tail, eval};
 use al_base::Key;
 use al_block::Block;
+use al_rewards::Totals;
 use al_rows::{Change, Changes, Never, Stored, StoredView};
 use std::alloc::{AllocError, Global};
 use std::collections::BTreeMap;
@@ -118,21 +119,31 @@ fn next_rows(
     Ok(out)
 }
 
-/// The rows after a block of payments that is taken, or the first refusal, as `eval` says. `rows`
-/// are those before it, and `tail` the transactions of the chain.
+/// What a block of payments leads to.
+#[derive(Drop)]
+pub struct Stepped {
+    /// The rows after it.
+    pub rows: BTreeMap<Key, Stored>,
+    /// The money and units of all accounts after it.
+    pub totals: Totals,
+}
+
+/// What a block of payments that is taken leads to, or the first refusal, as `eval` says. `rows`
+/// are those before it, and `tail` the transactions of the chain. Over a sound state with its
+/// totals this is the step: all its money stays, and the pool can pay.
 pub fn step_rows(
     alloc: Global,
     rows: &BTreeMap<Key, Stored>,
     before: &Before,
     tail: &Tail,
     block: &Block,
-) -> Result<BTreeMap<Key, Stored>, EvalRefusal<Never>>
+) -> Result<Stepped, EvalRefusal<Never>>
     requires pays { All (λ i. IsPay i.txn.body) block.now.items }
     requires kept { All (λ e. IsKept e.0 e.1.row) rows.now.entries }
     requires hash { before.now.hash ≡ header_hash_of before.now.header }
-    ensures step { (past : List Txn) → tail.now ≡ map entry_of past → Steps (step (record { chain = before.now.chain; header = before.now.header; rows = from_entries rows.now.entries; past = past }) block.now) result }
-    ensures kept { IfOk result (λ m. All (λ e. IsKept e.0 e.1.row) m.entries) }
-    ensures money { IfOk result (λ m. money block.now.header.level (bare (from_entries m.entries)) ≡ money before.now.header.level (bare (from_entries rows.now.entries))) }
+    requires round { block.now.header.round ≤ 2 ^ 62 }
+    ensures step { (past : List Txn) → tail.now ≡ map entry_of past → IsSoundBefore before.now rows.now past → Steps (step (begun before.now rows.now past) block.now) result }
+    ensures kept { IfOk result (λ s. All (λ e. IsKept e.0 e.1.row) s.rows.entries) }
 {
     let mut view = StoredView::new(alloc, rows);
     let delta = match eval(alloc, &mut view, before, tail, block) {
@@ -140,7 +151,10 @@ pub fn step_rows(
         Err(refusal) => return Err(refusal),
     };
     match next_rows(alloc, rows, &delta.changes, delta.round) {
-        Ok(next) => Ok(next),
+        Ok(rows) => Ok(Stepped {
+            rows,
+            totals: delta.totals,
+        }),
         Err(AllocError) => Err(EvalRefusal::Memory),
     }
 }

@@ -1,12 +1,13 @@
 //! The step of a block over a view.
-ghost use Rattle.std.specs.Prelude.{◌≡◌, ◌+◌, true, Ok, IfOk, IfSome, OnOk, map, All, length};
+ghost use Rattle.std.specs.Prelude.{◌≡◌, ◌≤◌, ◌+◌, ◌^◌, true, Ok, IfOk, IfSome, OnOk, map, All, length};
 ghost use Rattle.std.specs.List.Sorted.{IsStrictlySortedBy};
 ghost use Rattle.al_base.specs.Keys.{key_cmp};
 ghost use Rattle.al_rows.specs.Rows.{IsKept};
-ghost use Rattle.al_eval.specs.Steps.{Evals, IsCounted, IsDeltaOf, Runs, block_rows, counter_fault, payset_fault, unless_fault};
+ghost use Rattle.al_eval.specs.Steps.{Evals, IsCounted, IsDeltaOf, Runs, TotalsFollow, block_rows, counter_fault, payset_fault, units_before, unless_fault};
 
-use crate::header::{header_fault, is_sum};
+use crate::header::{header_fault, is_sum, rewards_fault};
 use crate::lent::Lent;
+use crate::pool::{owed_by, pay_pool, rewards_due};
 use crate::transact::all_items;
 use crate::{Before, EvalRefusal, Tail};
 use al_base::{CreatorChanges, OnlineChanges};
@@ -49,17 +50,26 @@ fn block_rows<V: RowView>(
     alloc: Global,
     work: &mut Work<V>,
     before: &Before,
+    units: u64,
     past: &Tail,
     block: &Block,
 ) -> Result<(), EvalRefusal<V::Fault>>
     requires level { work.old.level ≡ block.now.header.level }
     requires special { work.old.special ≡ before.now.chain.special }
-    ensures step { Runs V.tells (block_rows before.now past.now block.now work.old.now) work.old work.new result }
+    requires most { block.now.header.round ≤ 2 ^ 62 }
+    ensures step { Runs V.tells (block_rows before.now units past.now block.now work.old.now) work.old work.new result }
     ensures round { OnOk result (block.now.header.round ≡ before.now.header.round + 1) }
 {
-    if let Some(field) = header_fault(before, &block.header) {
+    let header = &block.header;
+    if let Some(field) = header_fault(before, header) {
         return Err(EvalRefusal::Header { field });
     }
+    let due = rewards_due(work, before, header.round, units)?;
+    if let Some(field) = rewards_fault(&due, header) {
+        return Err(EvalRefusal::Header { field });
+    }
+    let pool = &before.chain.special.pool;
+    pay_pool(work, pool, owed_by(before, units, header))?;
     match payset_fault(alloc, block) {
         Ok(None) => {}
         Ok(Some(field)) => return Err(EvalRefusal::Header { field }),
@@ -81,6 +91,7 @@ fn delta_of(
 ) -> Result<RoundDelta, AllocError>
     ensures changes { IfOk result (λ d. changes ≡ Ok d.changes) }
     ensures header { IfOk result (λ d. IsDeltaOf block.now.header d) }
+    ensures totals { IfOk result (λ d. d.totals ≡ totals) }
 {
     let header = block.header.copy(alloc)?;
     Ok(RoundDelta {
@@ -103,9 +114,11 @@ fn eval_over<V: RowView>(
     block: &Block,
     answer: &mut Result<RoundDelta, EvalRefusal<V::Fault>>,
 ) -> V
+    requires { block.now.header.round ≤ 2 ^ 62 }
     ensures lender { V.lender result ≡ V.lender view }
     ensures same { V.tells ≡ true → V.rows result ≡ V.rows view }
-    ensures step { V.tells ≡ true → Evals (block_rows before.now past.now block.now (V.rows view)) (V.rows view) answer.new }
+    ensures step { V.tells ≡ true → Evals (block_rows before.now (units_before before.now) past.now block.now (V.rows view)) (V.rows view) answer.new }
+    ensures totals { V.tells ≡ true → TotalsFollow (block_rows before.now (units_before before.now) past.now block.now (V.rows view)) before.now block.now.header (V.rows view) answer.new }
     ensures cause { IsCounted answer.new (V.failures view) (V.failures result) }
     ensures ordered { IfOk answer.new (λ d. IsStrictlySortedBy key_cmp (map (λ c. c.key) d.changes)) }
     ensures kept { IfOk answer.new (λ d. All (λ c. IfSome c.row (IsKept c.key)) d.changes) }
@@ -120,8 +133,11 @@ fn eval_over<V: RowView>(
         header.level,
         header.round,
     );
-    let run = block_rows(alloc, &mut work, before, past, block);
-    let totals = work.totals(&before.totals);
+    let units = before.totals.units();
+    let run = block_rows(alloc, &mut work, before, units, past, block);
+    let mut totals = before.totals;
+    totals.raise(header.level);
+    let totals = work.totals(&totals);
     let (changes, view) = work.end();
     *answer = match run {
         Err(refusal) => Err(refusal),
@@ -134,11 +150,11 @@ fn eval_over<V: RowView>(
 }
 
 /// The step of a block over a view: what it changes, or the first refusal. It follows the Algorand
-/// ledger specification: first the header's fields, then the digest of the payset, then each
-/// group in order, and last the count of transactions. A group is looked at as a whole, and then
-/// each of its members in order. Bodies other than payments do nothing, the list of expired
-/// accounts is not looked at, and the reward fields are those that are due while nothing is to be
-/// given.
+/// ledger specification: first the header's fields, then the pool pays the rewards, then the digest
+/// of the payset, then each group in order, and last the count of transactions. A group is looked
+/// at as a whole, and then each of its members in order. Bodies other than payments do nothing, and
+/// the list of expired accounts is not looked at. `before` tells the totals at the level of the
+/// last block; those of the delta are at the new level.
 pub fn eval<V: RowView>(
     alloc: Global,
     view: &mut V,
@@ -146,7 +162,9 @@ pub fn eval<V: RowView>(
     tail: &Tail,
     block: &Block,
 ) -> Result<RoundDelta, EvalRefusal<V::Fault>>
-    ensures step { V.tells ≡ true → Evals (block_rows before.now tail.now block.now (V.rows view.old)) (V.rows view.old) result }
+    requires { block.now.header.round ≤ 2 ^ 62 }
+    ensures step { V.tells ≡ true → Evals (block_rows before.now (units_before before.now) tail.now block.now (V.rows view.old)) (V.rows view.old) result }
+    ensures totals { V.tells ≡ true → TotalsFollow (block_rows before.now (units_before before.now) tail.now block.now (V.rows view.old)) before.now block.now.header (V.rows view.old) result }
     ensures cause { IsCounted result (V.failures view.old) (V.failures view.new) }
     ensures same { V.tells ≡ true → V.rows view.new ≡ V.rows view.old }
     ensures ordered { IfOk result (λ d. IsStrictlySortedBy key_cmp (map (λ c. c.key) d.changes)) }
