@@ -103,8 +103,7 @@ steps_ok s tail b rows new old d hash told round h follow next past entries is =
     let st = begun s rows past in
     let due : due_of st b ≡ Ok h.0 = due_is s tail b rows old past hash told entries is ∙ h.1 in
     let leads = block_leads st b h.0 is.sound due in
-    let fits = money_fits s b rows old h.0 past told leads in
-    (
+    let fits = money_fits s b rows old h.0 past told leads in (
       after st b h.0,
       ap (λ d. then_do d (λ m. Ok (after st b m))) due,
       sym (left_is b rows new old h.0 d told round h.2 next),

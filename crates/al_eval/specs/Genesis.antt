@@ -256,9 +256,3 @@ number_of (faults.PoolLow balance) = 6
 number_of (faults.Minimum place) = 7
 number_of faults.TotalLarge = 8
 number_of faults.Memory = 9
-
--- ---- a genesis without rewards
-
--- the pool has the least balance, so it has nothing to give
-abbrev pub has_least_pool : Genesis → Bool
-has_least_pool g = list_any (λ a. bytes_eq a.address.0 g.chain.special.pool.0 && (a.row.balance == least_balance)) g.accounts

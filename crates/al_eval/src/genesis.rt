@@ -4,12 +4,12 @@ ghost use Rattle.std.specs.List.{list_all, list_any};
 ghost use Rattle.al_msgpack.specs.Places.{IsSpelling};
 ghost use Rattle.al_msgpack.specs.Rising.{canonical};
 ghost use Rattle.std.specs.Str.{bytes_eq};
-ghost use Rattle.al_eval.specs.Genesis.{GenesisAnswers, GenesisMeans, GenesisMeansUnless, IsGenesisOf, first_header, first_row, has_least_pool, status_of, interval_of, least_balance, number_of};
+ghost use Rattle.al_eval.specs.Genesis.{GenesisAnswers, GenesisMeans, GenesisMeansUnless, IsGenesisOf, first_header, first_row, status_of, interval_of, number_of};
 ghost use Rattle.al_eval.specs.declared.genesis.Genesis.{Genesis};
 ghost use Rattle.al_eval.specs.declared.genesis.GenesisFault.{GenesisFault};
 ghost use Rattle.al_eval.specs.declared.genesis.GenesisFault.TheVariants.{Memory};
 
-use crate::genesis_checks::{LEAST_BALANCE, check_fields};
+use crate::genesis_checks::check_fields;
 use crate::genesis_fields::{FirstAccount, FirstRow, GenesisRecord};
 use crate::genesis_record::read_value;
 use al_base::{Address, Addresses, Bytes, Special, Status};
@@ -107,14 +107,6 @@ impl Genesis {
         ensures only { (r : Result Genesis GenesisFault) → GenesisMeans input.now r → GenesisAnswers result r }
     {
         judge(alloc, input)
-    }
-
-    /// Whether the pool has its least balance, 100,000 microAlgos, so that it gives no rewards.
-    pub fn has_least_pool(&self) -> bool
-        ensures { result ≡ has_least_pool self.now }
-    {
-        let pool = &self.chain.special.pool;
-        self.accounts.as_slice().iter().any(|a| has_least(pool, a))
     }
 }
 
@@ -253,11 +245,4 @@ fn genesis_of(alloc: Global, input: &[u8], fields: GenesisRecord) -> Result<Gene
         header,
         accounts,
     })
-}
-
-/// An account is the pool, with the least balance.
-fn has_least(pool: &Address, account: &GenesisRow) -> bool
-    ensures { result ≡ (bytes_eq account.now.address.0 pool.now.0 && (account.now.row.balance == least_balance)) }
-{
-    account.address.0.as_slice() == pool.0.as_slice() && account.row.balance == LEAST_BALANCE
 }

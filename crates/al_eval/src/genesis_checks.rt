@@ -12,7 +12,7 @@ use crate::genesis_fields::{FirstAccount, GenesisRecord, MOST_MONEY};
 use al_base::Address;
 
 /// The least balance of an account that has nothing else, in microAlgos.
-pub(crate) const LEAST_BALANCE: u64 = 100_000;
+const LEAST_BALANCE: u64 = 100_000;
 
 /// The conditions on a record, in their order.
 pub(crate) fn check_fields(fields: &GenesisRecord) -> Result<(), GenesisFault>

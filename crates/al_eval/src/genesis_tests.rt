@@ -41,7 +41,6 @@ fn says_the_chain(rt: HostRuntime) -> Result<(), Fail> {
     let genesis = Genesis::decode(rt.alloc(), GENESIS)
         .ok()
         .ok_or("a genesis")?;
-    assert!(rt; genesis.has_least_pool());
     assert_eq!(rt; genesis.accounts.len(), 3);
     assert_eq!(rt; genesis.chain.interval, 500_000);
     assert_eq!(rt; genesis.header.recalc, 1);

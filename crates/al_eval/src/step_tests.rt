@@ -70,7 +70,7 @@ fn a_payment_is_applied_once(rt: HostRuntime) -> Result<(), Fail> {
     assert!(rt; genesis.accounts.as_slice() == accounts.as_slice());
     let rows = start_rows(rt.alloc(), &accounts)?;
     let block = decode_block(rt.alloc(), BLOCK)?;
-    assert!(rt; is_payment(block.items.as_slice()));
+    assert!(rt; is_payment(block.items.as_slice()) && block.header.round <= 1);
     let hash = header_hash(rt.alloc(), &genesis.header)?;
     let before = Before {
         chain: genesis.chain,
@@ -97,8 +97,16 @@ fn a_payment_is_applied_once(rt: HostRuntime) -> Result<(), Fail> {
         .ok()
         .ok_or("the rows after the block")?;
     for (byte, balance) in [(1, 1_000), (2, 100_000), (3, 2_199_000), (4, 300_000)] {
-        assert_eq!(rt; balance_of(&next, byte), balance, "of {byte}");
+        assert_eq!(rt; balance_of(&next.rows, byte), balance, "of {byte}");
     }
+    let offline = Count {
+        money: 2_499_000,
+        units: 2,
+    };
+    assert_eq!(rt;
+        (next.totals.offline, next.totals.apart.money),
+        (offline, 101_000)
+    );
     tail.extend(rt.alloc(), &block)?;
     assert!(rt; tail.has_id(1_000, &ID));
     let again = step_rows(rt.alloc(), &rows, &before, &tail, &block).err();
@@ -110,5 +118,45 @@ fn a_payment_is_applied_once(rt: HostRuntime) -> Result<(), Fail> {
     );
     tail.take_back(&block);
     assert!(rt; !tail.has_id(1_000, &ID));
+    Ok(())
+}
+
+// Two units at a rate of 10 are owed 10, and the pool has nothing above its least.
+#[test]
+fn the_pool_is_short(rt: HostRuntime) -> Result<(), Fail> {
+    let genesis = Genesis::decode(rt.alloc(), OTHER).ok().ok_or("a genesis")?;
+    let accounts = [
+        account(1, Status::NotParticipating, 0),
+        account(2, Status::NotParticipating, 100_000),
+        account(3, Status::Offline, 2_500_000),
+    ];
+    let rows = start_rows(rt.alloc(), &accounts)?;
+    let mut header = genesis.header;
+    header.rate = 10;
+    header.recalc = 9;
+    let hash = header_hash(rt.alloc(), &header)?;
+    let mut block = decode_block(rt.alloc(), BLOCK)?;
+    block.header.prev = hash;
+    block.header.rate = 10;
+    block.header.recalc = 9;
+    block.header.level = 5;
+    assert!(rt; is_payment(block.items.as_slice()) && block.header.round <= 1);
+    let before = Before {
+        chain: genesis.chain,
+        header,
+        hash,
+        totals: start_totals(&accounts),
+    };
+    let tail = Tail::new(rt.alloc());
+    let short = step_rows(rt.alloc(), &rows, &before, &tail, &block).err();
+    assert!(rt;
+        matches!(
+            short,
+            Some(EvalRefusal::PoolShort {
+                pool: 100_000,
+                owed: 10
+            })
+        )
+    );
     Ok(())
 }

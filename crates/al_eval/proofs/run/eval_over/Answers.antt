@@ -42,7 +42,7 @@ returns-clause-totals g c = λ t.
       | in-Err w ↦ rw w.t-32-is tt
       | in-Ok w ↦ rw w.t-32-is (elim w.match-delta_of.branch [
         | in-Ok-delta_of v ↦ rw v.t-36-is (totals_follow _ c.args.before.now c.args.block.now.header rows new c.raise.new.self c.totals-totals.result v.in-Ok-delta_of.delta (sym due ∙ w.in-Ok.ensures.step.gives t)
-          block level c.raise.ensures.exact (c.totals-totals.ensures t) (IfOk-at_ok (λ d. d.totals ≡ c.totals-totals.result) v.in-Ok-delta_of.is w.delta_of.ensures.totals))
+            block level c.raise.ensures.exact (c.totals-totals.ensures t) (IfOk-at_ok (λ d. d.totals ≡ c.totals-totals.result) v.in-Ok-delta_of.is w.delta_of.ensures.totals))
         | in-Err-delta_of v ↦ rw v.t-36-is tt
       ])
     ]
