@@ -2,7 +2,6 @@
 use Rattle.std.proofs.Common.{◌≡◌, true, get_or, All}
 use Rattle.std.proofs.lemmas.Bool.{and_parts}
 use Rattle.std.proofs.lemmas.List.Sums.{AllPass-from_list_all}
-use Rattle.al_base.specs.declared.address.Address.{Address}
 use Rattle.al_txn.specs.declared.txn.Item.{Item}
 use Rattle.al_txn.specs.declared.body.Body.{Body}
 use Rattle.al_txn.specs.declared.body.Body.TheVariants as bodies
@@ -10,15 +9,15 @@ use Rattle.al_block.specs.declared.block.Block.{Block}
 use Rattle.al_eval.specs.State.{IsPay}
 use Rattle.al_node.specs.Built.{is_built, is_built_body, is_none}
 
-built_pay : (pool : Address) (b : Body) → is_built_body pool b ≡ true → IsPay b
-built_pay pool (bodies.Pay p) h = tt
-built_pay pool (bodies.KeyReg p) h = absurd cc
-built_pay pool (bodies.Config p) h = absurd cc
-built_pay pool (bodies.Move p) h = absurd cc
-built_pay pool (bodies.Freeze p) h = absurd cc
-built_pay pool (bodies.App p) h = absurd cc
+built_pay : (b : Body) → is_built_body b ≡ true → IsPay b
+built_pay (bodies.Pay p) h = tt
+built_pay (bodies.KeyReg p) h = absurd cc
+built_pay (bodies.Config p) h = absurd cc
+built_pay (bodies.Move p) h = absurd cc
+built_pay (bodies.Freeze p) h = absurd cc
+built_pay (bodies.App p) h = absurd cc
 
-pub built_pays : (pool : Address) (b : Block) → is_built pool b ≡ true → All (λ i. IsPay i.txn.body) b.items
-built_pays pool b h =
-    let all = AllPass-from_list_all (λ (i : Item). is_built_body pool i.txn.body) b.items (and_parts (is_none b.header.expired) _ h).1 in
-    λ k d fits. built_pay pool (get_or b.items k d).txn.body (all k d fits)
+pub built_pays : (b : Block) → is_built b ≡ true → All (λ i. IsPay i.txn.body) b.items
+built_pays b h =
+    let all = AllPass-from_list_all (λ (i : Item). is_built_body i.txn.body) b.items (and_parts (is_none b.header.expired) _ h).1 in
+    λ k d fits. built_pay (get_or b.items k d).txn.body (all k d fits)

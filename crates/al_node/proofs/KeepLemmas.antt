@@ -1,12 +1,12 @@
 -- The kept states are those of the chain.
-use Rattle.std.proofs.Common.{◌≡◌, ◌≤◌, ◌<◌, ◌-◌, ℕ, zero, suc, List, [], ◌∷◌, ◌++◌, length, take, map, All, get_or, refl, sym, ap, ◌∙◌, arith, subst, length-append, Result, Ok, Err, Option, Some, None, IfSome}
+use Rattle.std.proofs.Common.{◌≡◌, ◌≤◌, ◌<◌, ◌-◌, ℕ, zero, suc, List, [], ◌∷◌, ◌++◌, length, take, map, All, get_or, refl, sym, ap, ap₂, ◌∙◌, arith, subst, length-append, Result, Ok, Err, Option, Some, None, IfSome}
 use Rattle.std.proofs.lemmas.List.{map-append}
 use Rattle.std.proofs.lemmas.List.Elements.{All-push}
 use Rattle.al_msgpack.proofs.Canonical.{spells_only}
 use Rattle.al_msgpack.specs.declared.val.Val.TheVariants as values
 use Rattle.al_block.specs.Block.{block, IsBlock}
 use Rattle.std.specs.BTreeMap as tree
-use Rattle.std.specs.FinMap.{from_entries, get}
+use Rattle.std.specs.FinMap.{FinMap, from_entries, get}
 use Rattle.al_base.specs.declared.key.Key.{Key}
 use Rattle.al_base.specs.Keys.{key_cmp}
 use Rattle.al_block.specs.declared.block.Block.{Block}
@@ -17,7 +17,9 @@ use Rattle.al_txn.specs.declared.txn.Txn.{Txn}
 use Rattle.al_txn.specs.declared.txn.Item.{Item}
 use Rattle.al_moves.specs.Moves.{then_do}
 use Rattle.al_rows.specs.declared.stored.Stored.{Stored}
-use Rattle.al_rows.specs.Rows.{IsKept}
+use Rattle.al_rows.specs.Rows.{IsKept, bare}
+use Rattle.al_rewards.specs.declared.totals.Totals.{Totals}
+use Rattle.al_moves.specs.Money.{counts}
 use Rattle.al_rows.proofs.Views.{get-of_entries, ranged-get}
 use Rattle.al_rows.specs.declared.row.Row.{Row}
 use Rattle.al_rows.specs.declared.row.Row.TheVariants as rows
@@ -155,11 +157,11 @@ mapped : (items : List Item) → map (λ i. entry_of i.txn) items ≡ map entry_
 mapped [] = refl
 mapped (i ∷ items) = ap (λ es. entry_of i.txn ∷ es) (mapped items)
 
-pub kept_more : (chain : Chain) (first : Header) (rows : Tree) (accepted : List Accepted) (header : Header) (hash : List ℕ) (tail : List Entry) (a : Accepted) (hash2 : List ℕ) (tail2 : List Entry)
-    → IsKeeping chain first rows accepted header hash tail → Leads (record { origin = origin_of chain first rows; blocks = blocks_of accepted }) a.block a.rows
+pub kept_more : (chain : Chain) (first : Header) (rows : Tree) (accepted : List Accepted) (header : Header) (hash : List ℕ) (totals : Totals) (tail : List Entry) (a : Accepted) (hash2 : List ℕ) (totals2 : Totals) (tail2 : List Entry)
+    → IsKeeping chain first rows accepted header hash totals tail → Leads (record { origin = origin_of chain first rows; blocks = blocks_of accepted }) a.block a.rows totals2
     → hash2 ≡ header_hash_of a.block.header → tail2 ≡ tail ++ map (λ i. entry_of i.txn) a.block.items → All (λ e. IsKept e.0 e.1.row) a.rows.entries → IsBlock a.bytes.items a.block
-    → IsKeeping chain first rows (accepted ++ a ∷ []) a.block.header hash2 tail2
-kept_more chain first rows accepted header hash tail a hash2 tail2 k l hashed tailed all spells =
+    → IsKeeping chain first rows (accepted ++ a ∷ []) a.block.header hash2 totals2 tail2
+kept_more chain first rows accepted header hash totals tail a hash2 totals2 tail2 k l hashed tailed all spells =
     let last : State = record { chain = chain; header = header; rows = from_entries (last_rows rows accepted).entries; past = k.past } in
     let two : Ok l.last ≡ Ok last = sym l.replayed ∙ follows_replay (origin_of chain first rows) last accepted k.follows in
     let same : l.last ≡ last = cc in
@@ -168,12 +170,15 @@ kept_more chain first rows accepted header hash tail a hash2 tail2 k l hashed ta
     let long : length (accepted ++ a ∷ []) ≡ suc (length accepted) = omega (arith, length-append accepted (a ∷ [])) in
     let end : last_rows rows (accepted ++ a ∷ []) ≡ a.rows = ap (rows_at rows (accepted ++ a ∷ [])) long ∙ rows_last rows accepted a in
     let end_rows : l.next.rows ≡ from_entries (last_rows rows (accepted ++ a ∷ [])).entries = l.rows_are ∙ ap (λ (t : Tree). from_entries t.entries) (sym end) in
+    let counted : totals2 ≡ counts a.block.header.level (bare (from_entries (last_rows rows (accepted ++ a ∷ [])).entries)) = l.totals_are ∙ ap₂ (λ (h : Header) (m : FinMap key_cmp Stored). counts h.level (bare m)) x.0 end_rows in
     let next : l.next ≡ record { chain = chain; header = a.block.header; rows = from_entries (last_rows rows (accepted ++ a ∷ [])).entries; past = k.past ++ map (λ i. i.txn) a.block.items } = whole l.next chain a.block.header (last_rows rows (accepted ++ a ∷ [])) (k.past ++ map (λ i. i.txn) a.block.items) x.1 x.0 end_rows x.2 in
     record {
       past = k.past ++ map (λ i. i.txn) a.block.items;
       follows = subst (Follows (origin_of chain first rows) (accepted ++ a ∷ [])) next (follows_push (origin_of chain first rows) last l.next accepted a k.follows stepped l.rows_are);
       hash_is = hashed;
       tail_is = tailed ∙ ap (λ es. es ++ map (λ i. entry_of i.txn) a.block.items) k.tail_is ∙ ap (λ es. map entry_of k.past ++ es) (mapped a.block.items) ∙ sym (map-append entry_of k.past (map (λ i. i.txn) a.block.items));
+      sound = k.sound;
+      totals_are = counted;
       kept = kept_push rows accepted a k.kept all;
       spelled = All-push (λ (x : Accepted). IsBlock x.bytes.items x.block) accepted a k.spelled spells;
     }

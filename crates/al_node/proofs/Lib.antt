@@ -5,3 +5,4 @@ pub mod OpenLemmas
 pub mod ServeLemmas
 pub mod ToldLemmas
 pub mod RunLemmas
+pub mod SoundLemmas

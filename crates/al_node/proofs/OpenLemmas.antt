@@ -1,5 +1,5 @@
 -- The states of a genesis.
-use Rattle.std.proofs.Common.{inl, inr, ◌≤◌, arith, ◌≡◌, ℕ, List, [], All, refl, ap, sym, subst, ◌∙◌, Err}
+use Rattle.std.proofs.Common.{◌≤◌, arith, ◌≡◌, ℕ, List, [], All, refl, ap, sym, subst, ◌∙◌, Err}
 use Rattle.std.proofs.lemmas.List.Elements.{All-nil}
 use Rattle.al_block.specs.Block.{IsBlock}
 use Rattle.std.specs.FinMap.{FinMap, from_entries}
@@ -17,22 +17,29 @@ use Rattle.al_rows.specs.Rows.{IsKept}
 use Rattle.al_eval.specs.declared.genesis.GenesisFault.{GenesisFault}
 use Rattle.al_eval.specs.declared.genesis.GenesisFault.TheVariants as faults
 use Rattle.al_eval.specs.Genesis.{GenesisMeansUnless, number_of}
-use Rattle.al_eval.specs.State.{State}
+use Rattle.al_eval.specs.State.{State, counts_in}
+use Rattle.al_eval.specs.Sound.{Sound}
+use Rattle.al_rewards.specs.declared.totals.Totals.{Totals}
 use Rattle.al_node.specs.Keeping.{Tree, IsKeeping, origin_of, blocks_of}
 
-pub kept_first : (chain : Chain) (first header : Header) (rows : Tree) (hash : List ℕ) → first ≡ header → hash ≡ header_hash_of first → All (λ e. IsKept e.0 e.1.row) rows.entries → IsKeeping chain first rows [] header hash []
-kept_first chain first header rows hash e h kept = record {
+pub kept_first : (chain : Chain) (first header : Header) (rows : Tree) (hash : List ℕ) (totals : Totals) → first ≡ header → hash ≡ header_hash_of first → All (λ e. IsKept e.0 e.1.row) rows.entries → Sound (origin_of chain first rows) → totals ≡ counts_in (origin_of chain header rows)
+    → IsKeeping chain first rows [] header hash totals []
+kept_first chain first header rows hash totals e h kept sound counted = record {
   past = [];
   follows = ap (λ (x : Header). let s : State = record { chain = chain; header = x; rows = from_entries rows.entries; past = [] } in s) e;
   hash_is = h ∙ ap header_hash_of e;
   tail_is = refl;
+  sound = sound;
+  totals_are = counted;
   kept = kept;
   spelled = All-nil (λ (a : Accepted). IsBlock a.bytes.items a.block);
 }
 
-pub kept_begun : (chain : Chain) (first header : Header) (rows : Tree) (hash : List ℕ) (accepted : List Accepted) (tail : List Entry) → accepted ≡ [] → tail ≡ [] → first ≡ header → hash ≡ header_hash_of first → All (λ e. IsKept e.0 e.1.row) rows.entries → IsKeeping chain first rows accepted header hash tail
-kept_begun chain first header rows hash accepted tail a t e h kept =
-    subst (λ (ts : List Entry). IsKeeping chain first rows accepted header hash ts) (sym t) (subst (λ (xs : List Accepted). IsKeeping chain first rows xs header hash []) (sym a) (kept_first chain first header rows hash e h kept))
+pub kept_begun : (chain : Chain) (first header : Header) (rows : Tree) (hash : List ℕ) (totals : Totals) (accepted : List Accepted) (tail : List Entry) → accepted ≡ [] → tail ≡ [] → first ≡ header → hash ≡ header_hash_of first → All (λ e. IsKept e.0 e.1.row) rows.entries
+    → Sound (origin_of chain header rows) → totals ≡ counts_in (origin_of chain header rows) → IsKeeping chain first rows accepted header hash totals tail
+kept_begun chain first header rows hash totals accepted tail a t e h kept sound counted =
+    let x = kept_first chain first header rows hash totals e h kept (subst (λ (f : Header). Sound (origin_of chain f rows)) (sym e) sound) counted in
+    subst (λ (ts : List Entry). IsKeeping chain first rows accepted header hash totals ts) (sym t) (subst (λ (xs : List Accepted). IsKeeping chain first rows xs header hash totals []) (sym a) x)
 
 -- what they hold
 abbrev held_of : State → List Block → Held
@@ -47,14 +54,14 @@ held_begun chain first header rows accepted all e f a =
 -- a fault of the reader is shown by its number
 pub fault_opens : (input : List ℕ) (f : GenesisFault) → GenesisMeansUnless input (Err f) → Opens input (Err (fault_of f))
 fault_opens input faults.Memory x = tt
-fault_opens input (faults.Decode e) x = inl (faults.Decode e, x, refl)
-fault_opens input (faults.Field e) x = inl (faults.Field e, x, refl)
-fault_opens input (faults.Range e) x = inl (faults.Range e, x, refl)
-fault_opens input (faults.Order e) x = inl (faults.Order e, x, refl)
-fault_opens input faults.Special x = inl (faults.Special, x, refl)
-fault_opens input (faults.PoolLow e) x = inl (faults.PoolLow e, x, refl)
-fault_opens input (faults.Minimum e) x = inl (faults.Minimum e, x, refl)
-fault_opens input faults.TotalLarge x = inl (faults.TotalLarge, x, refl)
+fault_opens input (faults.Decode e) x = (faults.Decode e, x, refl)
+fault_opens input (faults.Field e) x = (faults.Field e, x, refl)
+fault_opens input (faults.Range e) x = (faults.Range e, x, refl)
+fault_opens input (faults.Order e) x = (faults.Order e, x, refl)
+fault_opens input faults.Special x = (faults.Special, x, refl)
+fault_opens input (faults.PoolLow e) x = (faults.PoolLow e, x, refl)
+fault_opens input (faults.Minimum e) x = (faults.Minimum e, x, refl)
+fault_opens input faults.TotalLarge x = (faults.TotalLarge, x, refl)
 
 number_digit : (f : GenesisFault) → number_of f ≤ 9
 number_digit (faults.Decode e) = omega arith
@@ -69,5 +76,4 @@ number_digit faults.Memory = omega arith
 
 -- the number that is shown is a digit
 pub refused_digit : (file : List ℕ) (n : ℕ) → IsRefusedGenesis file n → n ≤ 9
-refused_digit file n (inl x) = (let d = number_digit x.0 in omega (arith, x.2, d))
-refused_digit file n (inr x) = omega (arith, x.3)
+refused_digit file n x = (let d = number_digit x.0 in omega (arith, x.2, d))

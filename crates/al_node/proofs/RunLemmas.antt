@@ -14,6 +14,7 @@ use Rattle.al_node.specs.Keeping.{IsStates, held}
 use Rattle.al_node.specs.Opening.{Opens}
 use Rattle.al_node.specs.Sessions.{Outside, Holds, IsServed, IsDigit, RunsOf, Runs, session_file, status_of}
 use Rattle.al_node.proofs.KeepLemmas.{states_valid}
+use Rattle.al_node.proofs.SoundLemmas.{states_money}
 
 -- what a read answers is what the folder holds
 pub read_holds : (before now : Option FileMap) (name : List ℕ) (limit : ℕ) (found : Option (List ℕ)) → Reads before now name limit (Ok found) → Holds before name found
@@ -29,11 +30,11 @@ served_runs words name file before after n s t e named holds opened serves kept 
       holds = holds;
       genesis = opened.1.0;
       decodes = opened.1.1;
-      least = opened.1.2;
       held = held t;
       end = e;
-      serves = subst (λ (h : Held). Serves h (held t) before.left after.left before.written after.written e) opened.1.3 serves;
+      serves = subst (λ (h : Held). Serves h (held t) before.left after.left before.written after.written e) opened.1.2 serves;
       valid = states_valid t kept;
+      money = states_money t kept;
       status = is;
       source_fault = source;
       sink_fault = sink;

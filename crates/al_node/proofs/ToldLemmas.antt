@@ -14,6 +14,7 @@ use Rattle.al_block.specs.declared.decoding.BlockFault.TheVariants as faults
 use Rattle.al_block.specs.Block.{IsBlock, BlockMeansUnless}
 use Rattle.al_eval.specs.State.{State, Steps, step, replay, row_at}
 use Rattle.al_eval.specs.Steps.{Refusal}
+use Rattle.al_eval.specs.Sound.{begun}
 use Rattle.al_eval.specs.declared.before.EvalRefusal.{EvalRefusal}
 use Rattle.al_eval.specs.declared.before.EvalRefusal.TheVariants as refusals
 use Rattle.std.specs.FinMap.{from_entries}
@@ -135,11 +136,11 @@ led_to_last s k = follows_replay (held s).origin (last_of s k) s.accepted.items 
 judged_prev : (front : ℕ) (s : State) (b : Block) → same_bytes b.header.prev (header_hash_of s.header) ≡ false → judged front s b ≡ Some (wrong_prev front (header_hash_of s.header))
 judged_prev front s b e = when_false (same_bytes b.header.prev (header_hash_of s.header)) _ _ e
 
-judged_odd : (front : ℕ) (s : State) (b : Block) → same_bytes b.header.prev (header_hash_of s.header) ≡ true → is_built s.chain.special.pool b ≡ false → judged front s b ≡ Some not_built
-judged_odd front s b e f = when_true (same_bytes b.header.prev (header_hash_of s.header)) _ _ e ∙ when_false (is_built s.chain.special.pool b) _ _ f
+judged_odd : (front : ℕ) (s : State) (b : Block) → same_bytes b.header.prev (header_hash_of s.header) ≡ true → is_built b ≡ false → judged front s b ≡ Some not_built
+judged_odd front s b e f = when_true (same_bytes b.header.prev (header_hash_of s.header)) _ _ e ∙ when_false (is_built b) _ _ f
 
-judged_step : (front : ℕ) (s : State) (b : Block) → same_bytes b.header.prev (header_hash_of s.header) ≡ true → is_built s.chain.special.pool b ≡ true → judged front s b ≡ refused front (step s b)
-judged_step front s b e f = when_true (same_bytes b.header.prev (header_hash_of s.header)) _ _ e ∙ when_true (is_built s.chain.special.pool b) _ _ f
+judged_step : (front : ℕ) (s : State) (b : Block) → same_bytes b.header.prev (header_hash_of s.header) ≡ true → is_built b ≡ true → judged front s b ≡ refused front (step s b)
+judged_step front s b e f = when_true (same_bytes b.header.prev (header_hash_of s.header)) _ _ e ∙ when_true (is_built b) _ _ f
 
 next_posts : (s : States) (k : IsStates s) (body : List ℕ) (b : Block) (a : Answer) → IsBlock body b → b.header.round ≡ suc (length (held s).blocks) → judged (length (held s).blocks) (last_of s k) b ≡ Some a → Posts (held s).origin (held s).blocks body a ⊎ (a ≡ memory_answer)
 next_posts s k body b a is round due = judged_posts (held s).origin (last_of s k) (held s).blocks body b a is round (led_to_last s k) due
@@ -160,13 +161,14 @@ continues : (s : States) (k : IsStates s) (b : Block) → false ≡ not (same_by
 continues s k b same = ap (same_bytes b.header.prev) (sym k.hash_is) ∙ flipped (same_bytes b.header.prev s.before.hash) false same
 
 -- it is not built
-pub odd_posts : (s : States) (k : IsStates s) (body : List ℕ) (b : Block) (a : Answer) → IsBlock body b → b.header.round ≡ suc (length (held s).blocks) → false ≡ not (same_bytes b.header.prev s.before.hash) → is_built s.before.chain.special.pool b ≡ false → a ≡ not_built
+pub odd_posts : (s : States) (k : IsStates s) (body : List ℕ) (b : Block) (a : Answer) → IsBlock body b → b.header.round ≡ suc (length (held s).blocks) → false ≡ not (same_bytes b.header.prev s.before.hash) → is_built b ≡ false → a ≡ not_built
     → Posts (held s).origin (held s).blocks body a ⊎ (a ≡ memory_answer)
 odd_posts s k body b a is round same odd e = next_posts s k body b a is round (judged_odd (length (held s).blocks) (last_of s k) b (continues s k b same) odd ∙ ap Some (sym e))
 
 shown_refusal : {F : Type 0} (due : Result State Refusal) (front : ℕ) (r : EvalRefusal F) (a : Answer) → Steps due (Err r) → ShowsRefusal front r a → (refused front due ≡ Some a) ⊎ (a ≡ memory_answer)
 shown_refusal due front (refusals.Broken place rule) a x y = inl (ap (refused front) x ∙ y)
 shown_refusal due front (refusals.Header field) a x y = inl (ap (refused front) x ∙ y)
+shown_refusal due front (refusals.PoolShort pool owed) a x y = inl (ap (refused front) x ∙ y)
 shown_refusal due front (refusals.View f) a x y = inr y
 shown_refusal due front refusals.Memory a x y = inr y
 
@@ -176,11 +178,11 @@ refused_or s k body b a is round due (inl e) = next_posts s k body b a is round 
 refused_or s k body b a is round due (inr none) = inr none
 
 -- the step refuses it
-pub step_posts : {F : Type 0} (s : States) (k : IsStates s) (body : List ℕ) (b : Block) (rows : Tree) (front : ℕ) (r : EvalRefusal F) (a : Answer) → IsBlock body b → b.header.round ≡ suc (length (held s).blocks) → false ≡ not (same_bytes b.header.prev s.before.hash) → is_built s.before.chain.special.pool b ≡ true
-    → rows ≡ last_rows s.rows s.accepted.items → Steps (step (record { chain = s.before.chain; header = s.before.header; rows = from_entries rows.entries; past = k.past }) b) (Err r) → front ≡ length (held s).blocks → ShowsRefusal front r a
+pub step_posts : {F : Type 0} (s : States) (k : IsStates s) (body : List ℕ) (b : Block) (rows : Tree) (front : ℕ) (r : EvalRefusal F) (a : Answer) → IsBlock body b → b.header.round ≡ suc (length (held s).blocks) → false ≡ not (same_bytes b.header.prev s.before.hash) → is_built b ≡ true
+    → rows ≡ last_rows s.rows s.accepted.items → Steps (step (begun s.before rows k.past) b) (Err r) → front ≡ length (held s).blocks → ShowsRefusal front r a
     → Posts (held s).origin (held s).blocks body a ⊎ (a ≡ memory_answer)
 step_posts s k body b rows front r a is round same plain led steps at shows =
-    let due : Steps (step (last_of s k) b) (Err r) = subst (λ (t : Tree). Steps (step (record { chain = s.before.chain; header = s.before.header; rows = from_entries t.entries; past = k.past }) b) (Err r)) led steps in
+    let due : Steps (step (last_of s k) b) (Err r) = subst (λ (t : Tree). Steps (step (begun s.before t k.past) b) (Err r)) led steps in
     let shown : ShowsRefusal (length (held s).blocks) r a = subst (λ n. ShowsRefusal n r a) at shows in
     refused_or s k body b a is round (judged_step (length (held s).blocks) (last_of s k) b (continues s k b same) plain) (shown_refusal (step (last_of s k) b) (length (held s).blocks) r a due shown)
 

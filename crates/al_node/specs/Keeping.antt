@@ -10,8 +10,11 @@ use Rattle.al_block.specs.declared.block.Block.{Block}
 use Rattle.al_block.specs.Block.{IsBlock}
 use Rattle.al_block.specs.Hashes.{header_hash_of}
 use Rattle.al_rows.specs.declared.stored.Stored.{Stored}
-use Rattle.al_rows.specs.Rows.{IsKept}
-use Rattle.al_eval.specs.State.{State, step, replay}
+use Rattle.al_rows.specs.Rows.{IsKept, bare}
+use Rattle.al_rewards.specs.declared.totals.Totals.{Totals}
+use Rattle.al_moves.specs.Money.{counts}
+use Rattle.al_eval.specs.State.{State, counts_in, step, replay}
+use Rattle.al_eval.specs.Sound.{Sound}
 use Rattle.al_eval.specs.Past.{entry_of}
 use Rattle.al_eval.specs.declared.tail.Entry.{Entry}
 use Rattle.al_node.specs.declared.states.Accepted.{Accepted}
@@ -57,11 +60,13 @@ AllKept rows [] = All (λ e. IsKept e.0 e.1.row) rows.entries
 AllKept rows (a ∷ more) = All (λ e. IsKept e.0 e.1.row) rows.entries × AllKept a.rows more
 
 -- what is kept is the states of the chain: the rows after each block, and what the next step begins with
-pub record IsKeeping (chain : Chain) (first : Header) (rows : Tree) (accepted : List Accepted) (header : Header) (hash : List ℕ) (tail : List Entry) : Type 0 where
+pub record IsKeeping (chain : Chain) (first : Header) (rows : Tree) (accepted : List Accepted) (header : Header) (hash : List ℕ) (totals : Totals) (tail : List Entry) : Type 0 where
   pub past : List Txn
   pub follows : Follows (origin_of chain first rows) accepted (record { chain = chain; header = header; rows = from_entries (last_rows rows accepted).entries; past = past })
   pub hash_is : hash ≡ header_hash_of header
   pub tail_is : tail ≡ map entry_of past
+  pub sound : Sound (origin_of chain first rows)
+  pub totals_are : totals ≡ counts header.level (bare (from_entries (last_rows rows accepted).entries))
   pub kept : AllKept rows accepted
   pub spelled : All (λ a. IsBlock a.bytes.items a.block) accepted
 
@@ -71,12 +76,13 @@ held s = record { origin = origin_of s.before.chain s.first s.rows; blocks = blo
 
 -- the states are those of one chain. What `States::open` gives is so, and every call keeps it
 abbrev pub IsStates : States → Type 0
-IsStates s = IsKeeping s.before.chain s.first s.rows s.accepted.items s.before.header s.before.hash s.tail
+IsStates s = IsKeeping s.before.chain s.first s.rows s.accepted.items s.before.header s.before.hash s.before.totals s.tail
 
--- the block leads from the state after the blocks that are held to these rows
-pub record Leads (held : Held) (b : Block) (rows : Tree) : Type 0 where
+-- the block leads from the state after the blocks that are held to these rows, which have these totals
+pub record Leads (held : Held) (b : Block) (rows : Tree) (totals : Totals) : Type 0 where
   pub last : State
   pub next : State
   pub replayed : replay held.origin held.blocks ≡ Ok last
   pub stepped : step last b ≡ Ok next
   pub rows_are : next.rows ≡ from_entries rows.entries
+  pub totals_are : totals ≡ counts_in next

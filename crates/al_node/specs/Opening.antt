@@ -1,20 +1,18 @@
 -- What a genesis file opens.
-use Rattle.std.specs.Prelude.{◌≡◌, ◌⊎◌, ℕ, List, [], true, false, ⊤, Result, Ok, Err}
+use Rattle.std.specs.Prelude.{◌≡◌, ℕ, List, [], ⊤, Result, Ok, Err}
 use Rattle.al_eval.specs.declared.genesis.Genesis.{Genesis}
 use Rattle.al_eval.specs.declared.genesis.GenesisFault.{GenesisFault}
 use Rattle.al_eval.specs.declared.genesis.GenesisFault.TheVariants as read
-use Rattle.al_eval.specs.Genesis.{IsGenesis, GenesisMeans, has_least_pool, number_of}
+use Rattle.al_eval.specs.Genesis.{IsGenesis, GenesisMeans, number_of}
 use Rattle.al_eval.specs.Start.{start}
 use Rattle.al_node.specs.declared.states.States.{States}
 use Rattle.al_node.specs.declared.states.OpenFault.{OpenFault}
 use Rattle.al_node.specs.declared.states.OpenFault.TheVariants as faults
 use Rattle.al_node.specs.Keeping.{IsStates, held}
 
--- the file holds no genesis that is taken: with the number of its first fault, or with 0 where the pool holds more than its least
+-- the file holds no genesis, and this is the number of its first fault
 abbrev pub IsRefusedGenesis : List ℕ → ℕ → Type 0
-IsRefusedGenesis file n =
-    ((f : GenesisFault) × GenesisMeans file (Err f) × (n ≡ number_of f))
-    ⊎ ((g : Genesis) × IsGenesis file g × (has_least_pool g ≡ false) × (n ≡ 0))
+IsRefusedGenesis file n = (f : GenesisFault) × GenesisMeans file (Err f) × (n ≡ number_of f)
 
 -- what a fault of the reader is shown as
 abbrev pub fault_of : GenesisFault → OpenFault
@@ -23,6 +21,6 @@ fault_of f = faults.Genesis (number_of f)
 
 -- the states of a genesis with no block, or that the file holds none; only want of memory is free
 abbrev pub Opens : List ℕ → Result States OpenFault → Type 0
-Opens file (Ok s) = IsStates s × ((g : Genesis) × IsGenesis file g × (has_least_pool g ≡ true) × (held s ≡ record { origin = start g; blocks = [] }))
+Opens file (Ok s) = IsStates s × ((g : Genesis) × IsGenesis file g × (held s ≡ record { origin = start g; blocks = [] }))
 Opens file (Err (faults.Genesis n)) = IsRefusedGenesis file n
 Opens file (Err faults.Memory) = ⊤

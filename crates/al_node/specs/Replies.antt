@@ -17,7 +17,7 @@ use Rattle.al_rows.specs.declared.stored.Stored.{Stored}
 use Rattle.al_moves.specs.declared.rule.Rule.{Rule}
 use Rattle.al_eval.specs.declared.before.EvalRefusal.{EvalRefusal}
 use Rattle.al_eval.specs.declared.before.EvalRefusal.TheVariants as refusals
-use Rattle.al_eval.specs.Steps.{Refusal, broken, header}
+use Rattle.al_eval.specs.Steps.{Refusal, broken, header, pool_short}
 use Rattle.al_eval.specs.State.{State, step, replay, row_at, level_at}
 use Rattle.al_http.specs.declared.asking.Request.{Request}
 use Rattle.al_http.specs.declared.asking.Request.TheVariants as asks
@@ -97,6 +97,10 @@ wrong_prev front kept = answers.Refused 409 errors.WrongPrev (record nothing { f
 abbrev pub wrong_header : ℕ → Field → Answer
 wrong_header front field = answers.Refused 422 errors.Header (record nothing { front = Some front; field = Some field })
 
+-- 422: the pool could not pay what the units have earned
+abbrev pub short : ℕ → Answer
+short front = answers.Refused 422 errors.PoolShort (record nothing { front = Some front })
+
 -- 422: a broken rule with its values; rule 42 keeps whose balance it is, and does not show it
 abbrev pub broken_at : ℕ → ℕ → Rule → Answer
 broken_at front place rule =
@@ -111,10 +115,11 @@ abbrev pub refused : ℕ → Result State Refusal → Option Answer
 refused front (Ok s) = None
 refused front (Err (broken place rule)) = Some (broken_at front place rule)
 refused front (Err (header field)) = Some (wrong_header front field)
+refused front (Err (pool_short pool owed)) = Some (short front)
 
 -- the refusal by the step of a block that is built
 abbrev pub stepped : ℕ → State → Block → Option Answer
-stepped front s b = if is_built s.chain.special.pool b then refused front (step s b) else Some not_built
+stepped front s b = if is_built b then refused front (step s b) else Some not_built
 
 -- the refusal of a block of the next round, or none where it is taken
 abbrev pub judged : ℕ → State → Block → Option Answer
@@ -124,6 +129,7 @@ judged front s b = if same_bytes b.header.prev (header_hash_of s.header) then st
 abbrev pub ShowsRefusal : {F : Type 0} → ℕ → EvalRefusal F → Answer → Type 0
 ShowsRefusal front (refusals.Broken place rule) a = refused front (Err (broken place rule)) ≡ Some a
 ShowsRefusal front (refusals.Header field) a = refused front (Err (header field)) ≡ Some a
+ShowsRefusal front (refusals.PoolShort pool owed) a = refused front (Err (pool_short pool owed)) ≡ Some a
 ShowsRefusal front (refusals.View f) a = a ≡ memory_answer
 ShowsRefusal front refusals.Memory a = a ≡ memory_answer
 

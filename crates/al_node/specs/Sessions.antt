@@ -5,10 +5,10 @@ use mathlib.Core.List.{IsPrefix}
 use Rattle.al_base.specs.Causes.{Left, Wrote, Rose}
 use Rattle.al_base.specs.Folders.{FileMap}
 use Rattle.al_eval.specs.declared.genesis.Genesis.{Genesis}
-use Rattle.al_eval.specs.Genesis.{IsGenesis, has_least_pool}
+use Rattle.al_eval.specs.Genesis.{IsGenesis}
 use Rattle.al_eval.specs.Start.{start}
 use Rattle.al_node.specs.Connection.{Serves}
-use Rattle.al_node.specs.Held.{Held, IsValid}
+use Rattle.al_node.specs.Held.{Held, IsValid, KeepsMoney}
 use Rattle.al_node.specs.Opening.{IsRefusedGenesis}
 use Rattle.al_node.specs.declared.states.OpenFault.{OpenFault}
 use Rattle.al_node.specs.declared.states.OpenFault.TheVariants as faults
@@ -108,7 +108,7 @@ pub record IsUnread (name : List ℕ) (before after : Outside) (n : ℕ) : Type 
   pub cause : Rose before.folder_faults after.folder_faults ⊎ Holds before.files name None ⊎ IsTooLong before.files name
   pub line : SaysAlone (folder_line name) before after
 
--- status 3: the file holds no genesis that is taken
+-- status 3: the file holds no genesis
 pub record IsNoGenesis (name : List ℕ) (before after : Outside) (n : ℕ) : Type 0 where
   pub status : n ≡ 3
   pub number : ℕ
@@ -126,11 +126,11 @@ pub record IsServed (name : List ℕ) (before after : Outside) (n : ℕ) : Type 
   pub holds : Holds before.files name (Some file)
   pub genesis : Genesis
   pub decodes : IsGenesis file genesis
-  pub least : has_least_pool genesis ≡ true
   pub held : Held
   pub end : Ended
   pub serves : Serves (record { origin = start genesis; blocks = [] }) held before.left after.left before.written after.written end
   pub valid : IsValid held.origin held.blocks
+  pub money : KeepsMoney held
   pub status : n ≡ status_of end
   pub source_fault : end ≡ ended.SourceFault → Rose before.source_faults after.source_faults
   pub sink_fault : end ≡ ended.SinkFault → Rose before.sink_faults after.sink_faults

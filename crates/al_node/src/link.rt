@@ -4,6 +4,7 @@ ghost use Rattle.al_base.specs.Causes.{HasCause, Puts, Rose};
 ghost use Rattle.al_http.specs.Answers.{IsSound, answer_text, memory_answer};
 ghost use Rattle.al_http.specs.declared.answer.Answer.{Answer};
 ghost use Rattle.al_node.specs.Connection.{Serves};
+ghost use Rattle.al_node.specs.Held.{KeepsMoney};
 ghost use Rattle.al_node.specs.Keeping.{IsStates, held};
 ghost use Rattle.al_node.specs.declared.link.Ended.TheVariants as ended;
 
@@ -68,6 +69,7 @@ fn send<T: Sink>(alloc: Global, sink: &mut T, told: &Told) -> Result<(), Failed>
 ///
 /// The requests are those of the bytes taken, however they come in pieces. A posted block that is
 /// accepted is held from its answer on.
+#[tactic(auto, using(crate::proofs::SoundLemmas::states_money))]
 pub fn serve_link<S: Source, T: Sink>(
     alloc: Global,
     states: &mut States,
@@ -78,6 +80,7 @@ pub fn serve_link<S: Source, T: Sink>(
     requires { IsStates states.old }
     ensures states { IsStates states.new }
     ensures serves { Serves (held states.old) (held states.new) (S.left source.old) (S.left source.new) (T.written sink.old) (T.written sink.new) result }
+    ensures money { KeepsMoney (held states.new) }
     ensures seen { caller.new.seen ≡ length (held states.new).blocks }
     ensures source_fault { result ≡ ended.SourceFault → Rose (S.faults source.old) (S.faults source.new) }
     ensures sink_fault { result ≡ ended.SinkFault → Rose (T.faults sink.old) (T.faults sink.new) }

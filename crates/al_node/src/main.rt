@@ -7,6 +7,8 @@ mod chain_tests;
 pub mod inbox;
 pub mod link;
 pub mod replies;
+#[cfg(test)]
+mod reward_tests;
 pub mod run;
 pub mod states;
 #[cfg(test)]

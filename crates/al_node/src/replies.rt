@@ -3,7 +3,7 @@ ghost use Rattle.std.specs.Prelude.{◌≡◌, ◌<◌, ◌^◌, Some};
 ghost use Rattle.std.specs.Option.{option_copied};
 ghost use Rattle.al_http.specs.Answers.{memory_answer, nothing};
 ghost use Rattle.al_http.specs.declared.answer.Answer.TheVariants as answers;
-ghost use Rattle.al_node.specs.Replies.{ShowsRefusal, account_answer, broken_at, fork, misspelled, no_row, not_built, taken, too_new, undecodable, wrong_header, wrong_prev, wrong_round};
+ghost use Rattle.al_node.specs.Replies.{ShowsRefusal, account_answer, broken_at, fork, misspelled, no_row, not_built, short, taken, too_new, undecodable, wrong_header, wrong_prev, wrong_round};
 
 use al_base::{Bytes, Hash};
 use al_block::{BlockFault, Field};
@@ -116,6 +116,7 @@ pub fn refused(front: u64, refusal: EvalRefusal<Never>) -> Answer
     match refusal {
         EvalRefusal::Broken { place, rule } => broken(front, place, &rule),
         EvalRefusal::Header { field } => wrong_header(front, field),
+        EvalRefusal::PoolShort { .. } => short(front),
         EvalRefusal::View(never) => match never {},
         EvalRefusal::Memory => memory(),
     }
@@ -130,6 +131,19 @@ fn wrong_header(front: u64, field: Field) -> Answer
         more: More {
             front: Some(front),
             field: Some(field),
+            ..More::nothing()
+        },
+    }
+}
+
+fn short(front: u64) -> Answer
+    ensures { result ≡ short front }
+{
+    Answer::Refused {
+        status: 422,
+        error: ErrorName::PoolShort,
+        more: More {
+            front: Some(front),
             ..More::nothing()
         },
     }

@@ -5,13 +5,16 @@ ghost use Rattle.std.specs.BTreeMap as tree;
 ghost use Rattle.al_base.specs.Keys.{key_cmp};
 ghost use Rattle.al_block.specs.Block.{IsBlock};
 ghost use Rattle.al_eval.specs.Past.{entry_of};
-ghost use Rattle.al_eval.specs.Start.{start};
+ghost use Rattle.al_eval.specs.Sound.{Sound};
+ghost use Rattle.al_eval.specs.Start.{start, start_totals};
+ghost use Rattle.al_eval.specs.State.{counts_in};
 ghost use Rattle.al_http.specs.Answers.{IsSound, memory_answer};
 ghost use Rattle.al_http.specs.declared.asking.Request.TheVariants as asks;
 ghost use Rattle.al_node.specs.Held.{IsValid};
 ghost use Rattle.al_node.specs.Keeping.{IsStates, Leads, header_at, held, rows_at};
 ghost use Rattle.al_node.specs.Opening.{Opens, fault_of};
 ghost use Rattle.al_node.specs.Replies.{IsAnswered, IsRepeated, looked};
+ghost use Rattle.al_rewards.specs.Totals.{AreTotals};
 ghost use Rattle.al_rows.specs.Rows.{AccountInRange, IsKept};
 
 use crate::built::is_built;
@@ -21,7 +24,7 @@ use crate::replies::{
 };
 use al_base::{Address, Key};
 use al_block::{Block, Header, decode_block, header_hash};
-use al_eval::{Before, Genesis, GenesisFault, Tail, start_rows, start_totals, step_rows};
+use al_eval::{Before, Genesis, GenesisFault, Stepped, Tail, start_rows, start_totals, step_rows};
 use al_http::{Answer, Request};
 use al_rows::Stored;
 use std::alloc::{AllocError, Global};
@@ -37,8 +40,7 @@ pub struct Told {
 /// Why a genesis file opens no ledger.
 #[derive(Clone, Copy, Debug, PartialEq, Eq)]
 pub enum OpenFault {
-    /// It holds no genesis, and this is the number of its first fault; or, with 0, its pool would
-    /// give rewards, which is not built yet.
+    /// It holds no genesis, and this is the number of its first fault.
     Genesis { number: u8 },
     /// There was no memory.
     Memory,
@@ -67,8 +69,7 @@ impl States {
     /// The ledger that a genesis file begins, with no block.
     ///
     /// Errors: `Genesis` exactly where the file holds no genesis, with the number of its first
-    /// fault, or one whose pool has more than 100,000 microAlgos, with 0; `Memory` for want of
-    /// memory.
+    /// fault; `Memory` for want of memory.
     pub fn open(alloc: Global, file: &[u8]) -> Result<States, OpenFault>
         requires { length file.now < 2 ^ 31 }
         ensures { Opens file.now result }
@@ -77,9 +78,6 @@ impl States {
             Ok(genesis) => genesis,
             Err(fault) => return Err(fault_of(&fault)),
         };
-        if !genesis.has_least_pool() {
-            return Err(OpenFault::Genesis { number: 0 });
-        }
         match States::begin(alloc, genesis) {
             Ok(states) => Ok(states),
             Err(_) => Err(OpenFault::Memory),
@@ -88,7 +86,9 @@ impl States {
 
     // The states of a genesis, with no block.
     fn begin(alloc: Global, genesis: Genesis) -> Result<States, AllocError>
-        requires { All (λ a. AccountInRange a.row) genesis.accounts }
+        requires ranged { All (λ a. AccountInRange a.row) genesis.accounts }
+        requires sound { Sound (start genesis) }
+        requires totals { (start_totals genesis.accounts ≡ counts_in (start genesis)) × AreTotals (start_totals genesis.accounts) }
         ensures states { IfOk result (λ s. IsStates s) }
         ensures origin { IfOk result (λ s. held s ≡ record { origin = start genesis; blocks = [] }) }
     {
@@ -232,28 +232,28 @@ impl States {
         if block.header.prev != self.before.hash {
             return self.told(wrong_prev(front, self.before.hash));
         }
-        if !is_built(&self.before.chain.special.pool, &block) {
+        if !is_built(&block) {
             return self.told(not_built());
         }
         let rows = rows_at(&self.rows, &self.accepted, self.accepted.len());
         match step_rows(self.alloc, rows, &self.before, &self.tail, &block) {
-            Ok(rows) => self.take(body, block, rows),
+            Ok(next) => self.take(body, block, next),
             Err(refusal) => self.told(refused(front, refusal)),
         }
     }
 
-    // Takes a block that leads to these rows.
-    fn take(&mut self, body: &[u8], block: Block, rows: BTreeMap<Key, Stored>) -> Told
+    // Takes a block that leads to these rows and totals.
+    fn take(&mut self, body: &[u8], block: Block, next: Stepped) -> Told
         requires states { IsStates self.old }
         requires spelled { IsBlock body.now block }
         requires next { block.header.round ≡ suc (length (held self.old).blocks) }
-        requires leads { Leads (held self.old) block rows }
-        requires kept { All (λ e. IsKept e.0 e.1.row) rows.entries }
+        requires leads { Leads (held self.old) block next.rows next.totals }
+        requires kept { All (λ e. IsKept e.0 e.1.row) next.rows.entries }
         ensures states { IsStates self.new }
         ensures sound { IsSound result.answer }
         ensures answered { IsAnswered (held self.old) (held self.new) asks.Post body.now result }
     {
-        match self.append(body, block, rows) {
+        match self.append(body, block, next) {
             Ok(()) => {
                 let front = self.front();
                 self.told(taken(front, front))
@@ -262,17 +262,12 @@ impl States {
         }
     }
 
-    // Keeps a block that leads to these rows.
-    fn append(
-        &mut self,
-        body: &[u8],
-        block: Block,
-        rows: BTreeMap<Key, Stored>,
-    ) -> Result<(), AllocError>
+    // Keeps a block that leads to these rows and totals.
+    fn append(&mut self, body: &[u8], block: Block, next: Stepped) -> Result<(), AllocError>
         requires states { IsStates self.old }
         requires spelled { IsBlock body.now block }
-        requires leads { Leads (held self.old) block rows }
-        requires kept { All (λ e. IsKept e.0 e.1.row) rows.entries }
+        requires leads { Leads (held self.old) block next.rows next.totals }
+        requires kept { All (λ e. IsKept e.0 e.1.row) next.rows.entries }
         ensures ok { OnOk result (held self.new ≡ record (held self.old) { blocks = (held self.old).blocks ++ block ∷ [] }) }
         ensures err { OnErr result (held self.new ≡ held self.old) }
         ensures states { IsStates self.new }
@@ -284,10 +279,15 @@ impl States {
             self.alloc,
             &mut self.accepted,
             &mut self.tail,
-            Accepted { block, bytes, rows },
+            Accepted {
+                block,
+                bytes,
+                rows: next.rows,
+            },
         )?;
         self.before.header = header;
         self.before.hash = hash;
+        self.before.totals = next.totals;
         Ok(())
     }
 }

@@ -1,0 +1,74 @@
+-- The states that are kept are sound, and no money is made or lost.
+use Rattle.std.proofs.Common.{◌≡◌, ◌≤◌, ◌^◌, ℕ, List, [], ◌∷◌, take, codes, ap, ◌∙◌, subst, sym, refl, Bool, true, false, leb-true, nat_le, if◌then◌else◌, Option, None, Some, Result, Ok, Err}
+use Rattle.std.specs.FinMap.{from_entries}
+use Rattle.al_msgpack.specs.declared.val.Entry.{Entry}
+use Rattle.al_record.specs.declared.fault.Fault.{Fault}
+use Rattle.al_record.specs.declared.fault.Fault.TheVariants.{Range}
+use Rattle.al_record.specs.Columns.{first_of, range_fault, rules_of, unless_range, value_at, number_of, map_of, IsRecord}
+use Rattle.al_record.proofs.Engine.{first_none}
+use Rattle.al_record.proofs.Laws.{record_shows}
+use Rattle.al_block.specs.declared.block.Block.{Block}
+use Rattle.al_block.specs.declared.header.Header.{Header}
+use Rattle.al_block.specs.Block.{IsBlock, block, block_fields}
+use Rattle.al_block.specs.Header.{header, header_fields}
+use Rattle.al_moves.specs.Moves.{then_do}
+use Rattle.al_rewards.specs.declared.totals.Totals.{Totals}
+use Rattle.al_eval.specs.Steps.{Refusal}
+use Rattle.al_eval.specs.State.{State, step, replay}
+use Rattle.al_eval.specs.Sound.{Sound, IsSoundBefore}
+use Rattle.al_eval.proofs.Sounds.{step_sound, step_keeps}
+use Rattle.al_node.specs.declared.states.Accepted.{Accepted}
+use Rattle.al_node.specs.declared.states.States.{States}
+use Rattle.al_node.specs.Held.{KeepsMoney, money_in}
+use Rattle.al_node.specs.Keeping.{Tree, Follows, IsStates, held, last_rows}
+
+follows_sound : (o last : State) (more : List Accepted) → Sound o → Follows o more last → Sound last
+follows_sound o last [] h e = subst Sound e h
+follows_sound o last (a ∷ more) h (n, stepped, rows, rest) = follows_sound n last more (step_sound o n a.block h stepped) rest
+
+-- what the next step begins with
+pub before_sound : (s : States) (k : IsStates s) (rows : Tree) → rows ≡ last_rows s.rows s.accepted.items → IsSoundBefore s.before rows k.past
+before_sound s k rows led =
+    let x : IsSoundBefore s.before (last_rows s.rows s.accepted.items) k.past = record {
+      sound = follows_sound (held s).origin _ s.accepted.items k.sound k.follows;
+      totals = k.totals_are;
+    } in
+    subst (λ (t : Tree). IsSoundBefore s.before t k.past) (sym led) x
+
+then_replayed : (due : Result State Refusal) (bs : List Block) (t : State) → then_do due (λ s. replay s bs) ≡ Ok t → (s : State) × (due ≡ Ok s) × (replay s bs ≡ Ok t)
+then_replayed (Ok s) bs t e = (s, refl, e)
+then_replayed (Err r) bs t e = absurd (let x : ◌≡◌ {A = Result State Refusal} (Err r) (Ok t) = e in cc)
+
+replay_keeps : (s t : State) (bs : List Block) → Sound s → replay s bs ≡ Ok t → money_in t ≡ money_in s
+replay_keeps s t [] h e = let same : s ≡ t = cc in ap money_in (sym same)
+replay_keeps s t (b ∷ bs) h e =
+    let n = then_replayed (step s b) bs t e in
+    replay_keeps n.0 t bs (step_sound s n.0 b h n.1) n.2 ∙ step_keeps s n.0 b h n.1
+
+-- no block that is held makes or loses money
+pub states_money : (s : States) → IsStates s → KeepsMoney (held s)
+states_money s k = λ n t e. replay_keeps (held s).origin t (take n (held s).blocks) k.sound e
+
+-- ---- the round of a block that is spelled
+
+in_range : (b : Bool) (name : List ℕ) → unless_range b name ≡ None → b ≡ true
+in_range true name e = refl
+in_range false name e = absurd (let x : ◌≡◌ {A = Option Fault} (Some (Range name)) None = e in cc)
+
+header_within : (h : Header) (es : List Entry) → IsRecord header h es → h.round ≤ 2 ^ 62
+header_within h es is =
+    let shown = record_shows header_fields h es refl is in
+    let r0 = (first_none _ (range_fault (rules_of header_fields) es) is.sound).1 in
+    let rnd = first_none _ _ (first_none _ _ (first_none _ _ (first_none _ _ (first_none _ _ (first_none _ _ (first_none _ _ (first_none _ _ r0).1).1).1).1).1).1).1 in
+    let few : number_of (value_at (codes "rnd") es) ≤ 2 ^ 62 = leb-true _ _ (in_range _ _ rnd.0) in
+    subst (λ n. n ≤ 2 ^ 62) (sym shown.1.1.1.1.1.1.1.0) few
+
+-- it is at most 2^62
+pub round_within : (input : List ℕ) (b : Block) → IsBlock input b → b.header.round ≤ 2 ^ 62
+round_within input b is =
+    let es = block.write b in
+    let sound : block.fault es ≡ None = (first_none _ _ is.sound).0 in
+    let shown = record_shows block_fields b es refl (record { fields = refl; sound = sound }) in
+    let ranged = (first_none _ (range_fault (rules_of block_fields) es) sound).1 in
+    let inside : header.fault (map_of (value_at (codes "b") es)) ≡ None = (first_none _ _ ranged).0 in
+    header_within b.header (header.write b.header) (record { fields = refl; sound = subst (λ zs. header.fault zs ≡ None) (sym shown.0) inside })
