@@ -11,6 +11,7 @@ pub mod Calms
 pub mod Rises
 pub mod Sounds
 pub mod Firsts
+pub mod Counted
 pub mod Starts
 pub mod Exclusive
 pub mod Once

@@ -16,6 +16,7 @@ use Rattle.al_digest.specs.Digests.{digest_of}
 use Rattle.al_digest.specs.declared.hashing.Prefix.TheVariants as prefixes
 use Rattle.al_rewards.specs.Next.{least_pool}
 use Rattle.al_rewards.specs.Pending.{is_apart, max_balance}
+use Rattle.al_rewards.specs.Totals.{AreTotals}
 use Rattle.al_rows.specs.declared.account.AccountRow.{AccountRow}
 use Rattle.al_rows.specs.declared.row.Row.{Row}
 use Rattle.al_rows.specs.declared.row.AppParams.{AppParams}
@@ -30,7 +31,7 @@ use Rattle.al_moves.specs.Moves.{same_address}
 use Rattle.al_moves.specs.Money.{money}
 use Rattle.al_eval.specs.declared.genesis.Genesis.{Genesis}
 use Rattle.al_eval.specs.Genesis.{IsGenesis}
-use Rattle.al_eval.specs.Start.{start}
+use Rattle.al_eval.specs.Start.{start, start_totals}
 use Rattle.al_eval.specs.State.{State, step, counts_in}
 use Rattle.al_eval.specs.declared.before.Before.{Before}
 use Rattle.al_rows.specs.declared.stored.Stored.{Stored}
@@ -178,6 +179,10 @@ pub record IsSoundBefore (s : Before) (rows : BTreeMap Key Stored) (past : List 
 -- a genesis begins a sound state
 abbrev pub StartIsSound : Type 0
 StartIsSound = (input : List ℕ) (g : Genesis) → IsGenesis input g → Sound (start g)
+
+-- a genesis's totals are those of its rows, and fit into 64 bits
+abbrev pub StartIsCounted : Type 0
+StartIsCounted = (input : List ℕ) (g : Genesis) → IsGenesis input g → (start_totals g.accounts ≡ counts_in (start g)) × AreTotals (start_totals g.accounts)
 
 -- From a sound state a block that is taken leads to a sound state with the same money, and none is refused because the pool could not pay, or because a balance would pass the most. While no application is built, this asks nothing of their accounts
 pub record StepIsSound : Type 0 where
