@@ -1,6 +1,6 @@
 //! Laws of the definitions.
 ghost use Rattle.al_eval.specs.State.{ChangesLead};
-ghost use Rattle.al_eval.specs.Sound.{StartIsSound, StepIsSound};
+ghost use Rattle.al_eval.specs.Sound.{StartIsCounted, StartIsSound, StepIsSound};
 
 /// What a block changes leads from the rows before to those after.
 pub fn changes_lead()
@@ -10,6 +10,11 @@ pub fn changes_lead()
 /// A genesis begins a sound state.
 pub fn start_is_sound()
     ensures { StartIsSound }
+{}
+
+/// A genesis's totals are those of its rows, and fit into 64 bits.
+pub fn start_is_counted()
+    ensures { StartIsCounted }
 {}
 
 /// A block leads from a sound state to a sound state with the same money, and none is refused

@@ -20,7 +20,7 @@ mod transact;
 
 pub use before::{Before, EvalRefusal};
 pub use genesis::{Genesis, GenesisFault, GenesisRow, GenesisRows};
-pub use laws::{changes_lead, start_is_sound, step_is_sound};
+pub use laws::{changes_lead, start_is_counted, start_is_sound, step_is_sound};
 pub use next::{Stepped, step_rows};
 pub use run::eval;
 pub use start::{start_rows, start_totals};
