@@ -1,10 +1,10 @@
 -- The states that are kept are sound, and no money is made or lost.
-use Rattle.std.proofs.Common.{◌≡◌, ◌≤◌, ◌^◌, ℕ, List, [], ◌∷◌, take, codes, ap, ◌∙◌, subst, sym, refl, Bool, true, false, leb-true, nat_le, if◌then◌else◌, Option, None, Some, Result, Ok, Err}
+use Rattle.std.proofs.Common.{◌≡◌, ◌≤◌, ◌^◌, ℕ, zero, suc, List, [], ◌∷◌, take, drop, codes, ap, ◌∙◌, subst, sym, refl, Bool, true, false, leb-true, nat_le, if◌then◌else◌, Option, None, Some, Result, Ok, Err}
 use Rattle.std.specs.FinMap.{from_entries}
 use Rattle.al_msgpack.specs.declared.val.Entry.{Entry}
 use Rattle.al_record.specs.declared.fault.Fault.{Fault}
 use Rattle.al_record.specs.declared.fault.Fault.TheVariants.{Range}
-use Rattle.al_record.specs.Columns.{first_of, range_fault, rules_of, unless_range, value_at, number_of, map_of, IsRecord}
+use Rattle.al_record.specs.Columns.{Rule, range_fault, rules_of, unless_range, value_at, number_of, map_of, IsRecord}
 use Rattle.al_record.proofs.Engine.{first_none}
 use Rattle.al_record.proofs.Laws.{record_shows}
 use Rattle.al_block.specs.declared.block.Block.{Block}
@@ -55,12 +55,19 @@ in_range : (b : Bool) (name : List ℕ) → unless_range b name ≡ None → b �
 in_range true name e = refl
 in_range false name e = absurd (let x : ◌≡◌ {A = Option Fault} (Some (Range name)) None = e in cc)
 
+-- the fields behind the first n are in their ranges too
+later : (n : ℕ) (rs : List Rule) (es : List Entry) → range_fault rs es ≡ None → range_fault (drop n rs) es ≡ None
+later zero rs es h = h
+later (suc n) [] es h = h
+later (suc n) (r ∷ rs) es h = later n rs es (first_none (r.fault (value_at r.name es)) (range_fault rs es) h).1
+
 header_within : (h : Header) (es : List Entry) → IsRecord header h es → h.round ≤ 2 ^ 62
 header_within h es is =
     let shown = record_shows header_fields h es refl is in
-    let r0 = (first_none _ (range_fault (rules_of header_fields) es) is.sound).1 in
-    let rnd = first_none _ _ (first_none _ _ (first_none _ _ (first_none _ _ (first_none _ _ (first_none _ _ (first_none _ _ (first_none _ _ r0).1).1).1).1).1).1).1 in
-    let few : number_of (value_at (codes "rnd") es) ≤ 2 ^ 62 = leb-true _ _ (in_range _ _ rnd.0) in
+    let ranged = (first_none _ (range_fault (rules_of header_fields) es) is.sound).1 in
+    let test = nat_le (number_of (value_at (codes "rnd") es)) (2 ^ 62) in
+    let ok = (first_none (unless_range test (codes "rnd")) (range_fault (drop 8 (rules_of header_fields)) es) (later 7 (rules_of header_fields) es ranged)).0 in
+    let few : number_of (value_at (codes "rnd") es) ≤ 2 ^ 62 = leb-true (number_of (value_at (codes "rnd") es)) (2 ^ 62) (in_range test (codes "rnd") ok) in
     subst (λ n. n ≤ 2 ^ 62) (sym shown.1.1.1.1.1.1.1.0) few
 
 -- it is at most 2^62

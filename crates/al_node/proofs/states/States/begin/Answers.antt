@@ -17,8 +17,8 @@ returns-clause-states c =
     let led : start_rows g.accounts ≡ from_entries rows.entries = sym (c.in_ok-rows.ensures.value ∙ ap start_rows c.as_slice.ensures) in
     let sound : Sound (origin_of g.chain g.header rows) = subst (λ (m : FinMap key_cmp Stored). Sound (record { chain = g.chain; header = g.header; rows = m; past = [] })) led c.requires.sound in
     let fits : AreTotals (start_totals c.as_slice-2.result.now) = subst (λ xs. AreTotals (start_totals xs)) (sym c.as_slice-2.ensures) c.requires.totals.1 in
-    let totals : c.totals-totals.result ≡ counts_in (origin_of g.chain g.header rows) = c.totals-totals.ensures fits ∙ ap start_totals c.as_slice-2.ensures ∙ c.requires.totals.0 ∙ ap (λ (m : FinMap key_cmp Stored). counts_in (record { chain = g.chain; header = g.header; rows = m; past = [] })) led in
-    kept_begun g.chain c.in_ok-first.first g.header rows c.in_ok-hash.hash c.totals-totals.result c.new.result.items c.new-2.result c.new.ensures.items c.new-2.ensures c.in_ok-first.ensures c.in_ok-hash.ensures c.in_ok-rows.ensures.kept sound totals
+    let totals : c.start_totals-totals.result ≡ counts_in (origin_of g.chain g.header rows) = c.start_totals-totals.ensures fits ∙ ap start_totals c.as_slice-2.ensures ∙ c.requires.totals.0 ∙ ap (λ (m : FinMap key_cmp Stored). counts_in (record { chain = g.chain; header = g.header; rows = m; past = [] })) led in
+    kept_begun g.chain c.in_ok-first.first g.header rows c.in_ok-hash.hash c.start_totals-totals.result c.new.result.items c.new-2.result c.new.ensures.items c.new-2.ensures c.in_ok-first.ensures c.in_ok-hash.ensures c.in_ok-rows.ensures.kept sound totals
 
 pub returns-clause-origin : goal.returns-clause-origin
 returns-clause-origin c = held_begun c.args.genesis.chain c.in_ok-first.first c.args.genesis.header c.in_ok-rows.rows c.new.result.items (start_rows c.args.genesis.accounts) c.in_ok-first.ensures (c.in_ok-rows.ensures.value ∙ ap start_rows c.as_slice.ensures) c.new.ensures.items
