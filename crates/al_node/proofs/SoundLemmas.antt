@@ -1,10 +1,10 @@
 -- The states that are kept are sound, and no money is made or lost.
-use Rattle.std.proofs.Common.{◌≡◌, ◌≤◌, ◌^◌, ℕ, zero, suc, List, [], ◌∷◌, take, drop, codes, ap, ◌∙◌, subst, sym, refl, Bool, true, false, leb-true, nat_le, if◌then◌else◌, Option, None, Some, Result, Ok, Err}
-use Rattle.std.specs.FinMap.{from_entries}
+use Rattle.std.proofs.Common.{◌≡◌, ◌≤◌, ◌^◌, ℕ, zero, suc, List, [], ◌∷◌, take, drop, codes, ap, ◌∙◌, subst, sym, refl, Bool, true, false, leb-true, nat_le, Option, None, Some, Result, Ok, Err}
 use Rattle.al_msgpack.specs.declared.val.Entry.{Entry}
+use Rattle.al_msgpack.specs.declared.val.Val.TheViews as views
 use Rattle.al_record.specs.declared.fault.Fault.{Fault}
 use Rattle.al_record.specs.declared.fault.Fault.TheVariants.{Range}
-use Rattle.al_record.specs.Columns.{Rule, range_fault, rules_of, unless_range, value_at, number_of, map_of, IsRecord}
+use Rattle.al_record.specs.Columns.{Rule, range_fault, rules_of, unless_range, value_at, number_of, map_of, member_open, IsRecord}
 use Rattle.al_record.proofs.Engine.{first_none}
 use Rattle.al_record.proofs.Laws.{record_shows}
 use Rattle.al_block.specs.declared.block.Block.{Block}
@@ -12,7 +12,6 @@ use Rattle.al_block.specs.declared.header.Header.{Header}
 use Rattle.al_block.specs.Block.{IsBlock, block, block_fields}
 use Rattle.al_block.specs.Header.{header, header_fields}
 use Rattle.al_moves.specs.Moves.{then_do}
-use Rattle.al_rewards.specs.declared.totals.Totals.{Totals}
 use Rattle.al_eval.specs.Steps.{Refusal}
 use Rattle.al_eval.specs.State.{State, step, replay}
 use Rattle.al_eval.specs.Sound.{Sound, IsSoundBefore}
@@ -70,12 +69,19 @@ header_within h es is =
     let few : number_of (value_at (codes "rnd") es) ≤ 2 ^ 62 = leb-true (number_of (value_at (codes "rnd") es)) (2 ^ 62) (in_range test (codes "rnd") ok) in
     subst (λ n. n ≤ 2 ^ 62) (sym shown.1.1.1.1.1.1.1.0) few
 
+block_is : (input : List ℕ) (b : Block) → IsBlock input b → IsRecord block b (block.write b)
+block_is input b is = record {
+  fields = refl;
+  sound = ap (member_open block.fault) (sym (views.outs-Map (block.write b))) ∙ (first_none _ _ is.sound).0;
+}
+
+-- a header of a block is a record itself
+header_of : (b : Block) (es : List Entry) → IsRecord block b es → IsRecord header b.header (header.write b.header)
+header_of b es is = record {
+  fields = refl;
+  sound = ap header.fault (record_shows block_fields b es refl is).0 ∙ (first_none (header.fault (map_of (value_at (codes "b") es))) (range_fault (drop 1 (rules_of block_fields)) es) (first_none _ (range_fault (rules_of block_fields) es) is.sound).1).0;
+}
+
 -- it is at most 2^62
 pub round_within : (input : List ℕ) (b : Block) → IsBlock input b → b.header.round ≤ 2 ^ 62
-round_within input b is =
-    let es = block.write b in
-    let sound : block.fault es ≡ None = (first_none _ _ is.sound).0 in
-    let shown = record_shows block_fields b es refl (record { fields = refl; sound = sound }) in
-    let ranged = (first_none _ (range_fault (rules_of block_fields) es) sound).1 in
-    let inside : header.fault (map_of (value_at (codes "b") es)) ≡ None = (first_none _ _ ranged).0 in
-    header_within b.header (header.write b.header) (record { fields = refl; sound = subst (λ zs. header.fault zs ≡ None) (sym shown.0) inside })
+round_within input b is = header_within b.header (header.write b.header) (header_of b (block.write b) (block_is input b is))

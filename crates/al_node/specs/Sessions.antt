@@ -1,5 +1,5 @@
 -- What a run of the program is: its words, its one line of text, and its status.
-use Rattle.std.specs.Prelude.{◌≤◌, ◌<◌, ◌+◌, ⊤, ◌≡◌, ◌⊎◌, ◌&&◌, ℕ, Bool, true, false, not, List, [], ◌∷◌, ◌++◌, length, codes, nat_eq, if◌then◌else◌, Option, Some, None, IsSomeAnd}
+use Rattle.std.specs.Prelude.{◌≤◌, ◌<◌, ◌+◌, ⊤, ◌≡◌, ◌⊎◌, ◌&&◌, ℕ, Bool, false, not, List, [], ◌∷◌, ◌++◌, length, codes, nat_eq, if◌then◌else◌, Option, Some, None, IsSomeAnd}
 use Rattle.std.specs.Str.{bytes_eq}
 use mathlib.Core.List.{IsPrefix}
 use Rattle.al_base.specs.Causes.{Left, Wrote, Rose}
