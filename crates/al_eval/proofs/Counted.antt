@@ -1,9 +1,7 @@
 -- The totals of a genesis are those of its rows.
-use Rattle.std.proofs.Common.{◌≡◌, ◌+◌, ◌/◌, ℕ, refl, sym, ap, ap₂, ◌∙◌, subst, arith, Bool, true, false, cond, if◌then◌else◌, Ordering, Less, Equal, Greater, Option, Some, None, option_map, List, [], ◌∷◌, map, sum_by}
-use Rattle.std.specs.Ordering.{is_lt, is_eq, nat_cmp}
-use Rattle.std.specs.Cmp.Lexicographic.{slice_cmp}
-use Rattle.std.specs.BTreeMap.{is_at}
-use Rattle.std.specs.FinMap.{FinMap, get, from_entries, from_sorted, same_map, get-empty, get-from_sorted, entries-from_sorted}
+use Rattle.std.proofs.Common.{◌≡◌, ◌+◌, ◌/◌, ℕ, refl, sym, ap, ap₂, ◌∙◌, subst, arith, Bool, true, false, cond, if◌then◌else◌, Less, Some, None, option_map, List, [], ◌∷◌, map, sum_by}
+use Rattle.std.specs.Ordering.{is_eq}
+use Rattle.std.specs.FinMap.{FinMap, get, from_entries, get-empty}
 use Rattle.std.proofs.lemmas.Bool.{and_parts}
 use Rattle.al_base.specs.declared.account.Status.TheVariants.{Offline, Online, NotParticipating}
 use Rattle.al_base.specs.declared.address.Address.{Address}
@@ -24,7 +22,7 @@ use Rattle.al_rows.specs.declared.stored.Stored.{Stored}
 use Rattle.al_rows.specs.Finite.{set_at}
 use Rattle.al_rows.specs.Rows.{RowMap, bare, is_zero, is_zero_account, no_account, unless_zero}
 use Rattle.al_rows.proofs.Keys.{keys_total, exact_keys}
-use Rattle.al_rows.proofs.Maps.{get-map_entries, get-set_at}
+use Rattle.al_rows.proofs.Maps.{get-map_entries}
 use Rattle.al_rows.proofs.Sames.{account_true}
 use Rattle.al_moves.specs.Moves.{share_of}
 use Rattle.al_moves.specs.Money.{counts, money_at, share_at, units_at}
@@ -32,54 +30,26 @@ use Rattle.al_moves.proofs.Counts.{counts_fit, counts_put, counts_set}
 use Rattle.al_moves.proofs.Monies.{none_pending}
 use Rattle.al_moves.proofs.Overlays.{get-set}
 use Rattle.al_eval.specs.declared.genesis_fields.FirstAccount.{FirstAccount}
-use Rattle.al_eval.specs.declared.genesis.GenesisRow.{GenesisRow}
 use Rattle.al_eval.specs.Genesis.{addresses_of, first_row}
-use Rattle.al_eval.specs.Next.{stored_at}
 use Rattle.al_eval.specs.Start.{and_accounts, start, start_rows, start_totals, with_account, with_accounts}
 use Rattle.al_eval.specs.State.{counts_in}
 use Rattle.al_eval.specs.Sound.{StartIsCounted}
-use Rattle.al_eval.proofs.Firsts.{start_is_sound}
+use Rattle.al_eval.proofs.Firsts.{bare_nothing, bare_set, entries_none, less, start_is_sound}
 
 -- ---- no account
-
-none_is_empty : bare (from_entries []) ≡ from_sorted []
-none_is_empty = same_map keys_total exact_keys (bare (from_entries [])) (from_sorted []) (λ q.
-    get-map_entries exact_keys (λ k (s : Stored). s.row) (from_entries []) q
-    ∙ ap (option_map (λ (s : Stored). s.row)) (get-empty key_cmp q)
-    ∙ sym (get-from_sorted key_cmp [] q tt))
 
 counts_of_none : counts 0 (bare (from_entries [])) ≡ no_totals 0
 unfolding counts
 counts_of_none =
-    ap (counts 0) none_is_empty
+    ap (counts 0) bare_nothing
     ∙ ap (λ (es : List (Key × Row)). record {
       level = 0;
       online = record { money = sum_by (λ (e : Key × Row). money_at 0 Online e.1) es; units = sum_by (λ (e : Key × Row). units_at Online e.1) es };
       offline = record { money = sum_by (λ (e : Key × Row). money_at 0 Offline e.1) es; units = sum_by (λ (e : Key × Row). units_at Offline e.1) es };
       apart = record { money = sum_by (λ (e : Key × Row). money_at 0 NotParticipating e.1) es; units = sum_by (λ (e : Key × Row). units_at NotParticipating e.1) es };
-    }) (entries-from_sorted key_cmp [] tt)
+    }) entries_none
 
 -- ---- one account more
-
--- its row beside the others, all without their rounds
-row_beside : (m : FinMap key_cmp Stored) (a : GenesisRow) → bare (with_account m a) ≡ set_at (bare m) (Account a.address) (unless_zero (row.Account a.row))
-row_beside m a = put (unless_zero (row.Account a.row))
-  where
-    k : Key
-    k = Account a.address
-
-    chosen : (b : Bool) (o : Option Row) (s : Option Stored) → option_map (λ (s : Stored). s.row) (cond b (stored_at 0 o) s) ≡ cond b o (option_map (λ (s : Stored). s.row) s)
-    chosen true None s = refl
-    chosen true (Some r) s = refl
-    chosen false o s = refl
-
-    put : (o : Option Row) → bare (set_at m k (stored_at 0 o)) ≡ set_at (bare m) k o
-    put o = same_map keys_total exact_keys (bare (set_at m k (stored_at 0 o))) (set_at (bare m) k o) (λ q.
-        get-map_entries exact_keys (λ k (s : Stored). s.row) (set_at m k (stored_at 0 o)) q
-        ∙ ap (option_map (λ (s : Stored). s.row)) (get-set_at keys_total m k (stored_at 0 o) q)
-        ∙ chosen (is_at (key_cmp q) k) o (get m q)
-        ∙ ap (cond (is_at (key_cmp q) k) o) (sym (get-map_entries exact_keys (λ k (s : Stored). s.row) m q))
-        ∙ sym (get-set_at keys_total (bare m) k o q))
 
 -- an account of nothing adds nothing
 adds_none : (t : Totals) (s : Share) → s.status ≡ Offline → s.balance ≡ 0 → s.base ≡ t.level → and_share t (Some s) ≡ t
@@ -112,7 +82,7 @@ one_more m a none =
     zero_adds (counts 0 (bare m)) (first_row a).row refl
     ∙ ap (λ t. and_share t (share_at o)) (sym same)
     ∙ counts_put 0 (bare m) k o
-    ∙ ap (counts 0) (sym (row_beside m (first_row a)))
+    ∙ ap (counts 0) (sym (bare_set m (Account a.address) (unless_zero (row.Account (first_row a).row))))
 
 -- ---- all of them
 
@@ -120,18 +90,10 @@ one_more m a none =
 abbrev NoneAbove : Address → FinMap key_cmp Stored → Type 0
 NoneAbove last m = (who : Address) → key_cmp (Account last) (Account who) ≡ Less → get (bare m) (Account who) ≡ None
 
-is_above : (a b : Address) → is_lt (slice_cmp nat_cmp a.0 b.0) ≡ true → key_cmp (Account a) (Account b) ≡ Less
-is_above a b e = by_order (key_cmp (Account a) (Account b)) e
-  where
-    by_order : (r : Ordering) → is_lt r ≡ true → r ≡ Less
-    by_order Less e = refl
-    by_order Equal e = cc
-    by_order Greater e = cc
-
 none_above : (m : FinMap key_cmp Stored) (a : FirstAccount) → NoneAbove a.address m → NoneAbove a.address (with_account m (first_row a))
 none_above m a none who l =
     let o = unless_zero (row.Account (first_row a).row) in
-    ap (λ (n : RowMap). get n (Account who)) (row_beside m (first_row a))
+    ap (λ (n : RowMap). get n (Account who)) (bare_set m (Account a.address) (unless_zero (row.Account (first_row a).row)))
     ∙ get-set (bare m) (Account a.address) o (Account who)
     ∙ ap (λ r. cond (is_eq r) o (get (bare m) (Account who))) l
     ∙ none who l
@@ -140,7 +102,7 @@ more_counted : (m : FinMap key_cmp Stored) (last : FirstAccount) (xs : List Firs
 more_counted m last [] h none = refl
 more_counted m last (a ∷ xs) h none =
     let p = and_parts _ _ h in
-    let l = is_above last.address a.address p.0 in
+    let l = less last.address a.address p.0 in
     ap (λ t. and_accounts t (map first_row xs)) (one_more m a (none a.address l))
     ∙ more_counted (with_account m (first_row a)) a xs p.1 (none_above m a (λ who u. none who (keys_total.trans (Account last.address) (Account a.address) (Account who) l u)))
 

@@ -1,5 +1,5 @@
 -- What a step that ended answers.
-use Rattle.std.proofs.Common.{◌≡◌, ◌∙◌, ◌≤◌, ◌<◌, ◌+◌, ◌-◌, ◌*◌, ◌^◌, sym, ap, ap₂, subst, arith, ℕ, List, map, Result, Ok, Err}
+use Rattle.std.proofs.Common.{◌≡◌, ◌∙◌, ◌≤◌, ◌<◌, ◌+◌, ◌-◌, ◌^◌, sym, ap, ap₂, subst, arith, ℕ, List, map, Result, Ok, Err}
 use Rattle.std.specs.BTreeMap.{BTreeMap}
 use Rattle.std.specs.FinMap.{from_entries}
 use Rattle.al_base.specs.declared.account.Status.TheVariants.{Offline, Online}
@@ -24,11 +24,12 @@ use Rattle.al_eval.specs.declared.before.EvalRefusal.TheVariants as answer
 use Rattle.al_eval.specs.declared.tail.Entry.{Entry}
 use Rattle.al_eval.specs.Past.{entry_of}
 use Rattle.al_eval.specs.Next.{IsNext}
-use Rattle.al_eval.specs.Sound.{IsSoundBefore, begun}
-use Rattle.al_eval.specs.Steps.{Refusal, Gives, Evals, block_rows, units_before}
+use Rattle.al_eval.specs.Sound.{IsSoundBefore, IsStep, LeadsTo, Sound, begun}
+use Rattle.al_eval.specs.Steps.{Refusal, broken, header, Gives, Evals, TotalsFollow, block_rows, units_before}
 use Rattle.al_eval.specs.State.{State, Steps, after, before_of, counts_in, step, stamped}
 use Rattle.al_eval.proofs.Nexts.{next_is}
-use Rattle.al_eval.proofs.Sounds.{Leads, block_leads, counts_after, due_of}
+use Rattle.al_eval.proofs.Sounds.{Leads, block_leads, block_pays, block_within, counts_after, due_of, step_keeps}
+use Rattle.al_eval.proofs.Chains.{bare_stamped, step_ok}
 
 pub evals_err : {F : Type 0} (T : Type 0) (due : Result RowMap Refusal) (old m : RowMap) (e : EvalRefusal F) → Gives {T = T} due (Err e) m → Evals due old (Err e)
 evals_err T due old m (answer.Broken p r) h = h
@@ -46,69 +47,6 @@ few_units level m l =
     let online = total-le (units_by Online) (money_by level Online) m (λ k r. units_within level Online r) in
     let offline = total-le (units_by Offline) (money_by level Offline) m (λ k r. units_within level Offline r) in
     omega (arith, money_counted level m)
-
--- ---- the step
-
-unfoldable known : Before → List ℕ → Totals → Before
-known s hash totals = record s { hash = hash; totals = totals }
-
--- what is due of the state
-due_is : (s : Before) (tail : List Entry) (b : Block) (rows : BTreeMap Key Stored) (old : RowMap) (past : List Txn) → s.hash ≡ header_hash_of s.header → old ≡ bare (from_entries rows.entries) → tail ≡ map entry_of past → IsSoundBefore s rows past
-    → due_of (begun s rows past) b ≡ block_rows s (units_before s) tail b old
-unfolding known
-due_is s tail b rows old past hash told entries is =
-    let st = begun s rows past in
-    let units : all_units (counts_in st) ≡ units_before s = sym (few_units s.header.level (bare st.rows) is.sound.money) ∙ ap (λ t. capped (all_units t)) (sym is.totals) in
-    ap (λ u. block_rows (before_of st) u (map entry_of past) b (bare st.rows)) units
-    ∙ ap₂ (λ (h : List ℕ) (t : Totals). block_rows (known s h t) (units_before s) (map entry_of past) b (bare st.rows)) (sym hash) (sym is.totals)
-    ∙ ap₂ (λ (es : List Entry) (m : RowMap). block_rows s (units_before s) es b m) (sym entries) (sym told)
-
-pub steps_err : {F : Type 0} (s : Before) (tail : List Entry) (b : Block) (rows : BTreeMap Key Stored) (old : RowMap) (e : EvalRefusal F) → s.hash ≡ header_hash_of s.header → old ≡ bare (from_entries rows.entries)
-    → Evals (block_rows s (units_before s) tail b old) old (Err e) → (past : List Txn) → tail ≡ map entry_of past → IsSoundBefore s rows past → Steps (step (begun s rows past) b) (Err e)
-unfolding step
-steps_err s tail b rows old (answer.Broken p r) hash told h past entries is = ap (λ d. then_do d (λ m. Ok (after (begun s rows past) b m))) (due_is s tail b rows old past hash told entries is ∙ h)
-steps_err s tail b rows old (answer.Header f) hash told h past entries is = ap (λ d. then_do d (λ m. Ok (after (begun s rows past) b m))) (due_is s tail b rows old past hash told entries is ∙ h)
-steps_err s tail b rows old (answer.PoolShort p o) hash told h past entries is = ap (λ d. then_do d (λ m. Ok (after (begun s rows past) b m))) (due_is s tail b rows old past hash told entries is ∙ h)
-steps_err s tail b rows old (answer.View f) hash told h past entries is = tt
-steps_err s tail b rows old answer.Memory hash told h past entries is = tt
-
--- what the block changed, put over the rows before
-left_is : (b : Block) (rows new : BTreeMap Key Stored) (old n : RowMap) (d : RoundDelta) → old ≡ bare (from_entries rows.entries) → d.round ≡ b.header.round → AreChanges old n (map change_of d.changes) → IsNext d.round d.changes rows.entries new.entries
-    → from_entries new.entries ≡ stamped b.header.round (from_entries rows.entries) n
-left_is b rows new old n d told round h next =
-    next_is d.round rows new n d.changes (subst (λ (m : RowMap). AreChanges m n (map change_of d.changes)) told h) next ∙ ap (λ r. stamped r (from_entries rows.entries) n) round
-
--- the totals at the new level, before anything else changes
-raised_is : (s : Before) (b : Block) (rows : BTreeMap Key Stored) (old n : RowMap) (past : List Txn) → old ≡ bare (from_entries rows.entries) → IsSoundBefore s rows past → Leads (begun s rows past) b n → raised b.header.level s.totals ≡ counts b.header.level old
-raised_is s b rows old n past told is leads =
-    let m = bare (from_entries rows.entries) in
-    let up : s.header.level + (b.header.level - s.header.level) ≡ b.header.level = (let l = leads.rises in omega arith) in
-    let risen : counts b.header.level m ≡ raised b.header.level (counts s.header.level m) = subst (λ l. counts l m ≡ raised l (counts s.header.level m)) up (counts_raised s.header.level (b.header.level - s.header.level) m leads.exact) in
-    ap (raised b.header.level) is.totals ∙ sym risen ∙ ap (counts b.header.level) (sym told)
-
--- there is not too much money to count
-money_fits : (s : Before) (b : Block) (rows : BTreeMap Key Stored) (old n : RowMap) (past : List Txn) → old ≡ bare (from_entries rows.entries) → Leads (begun s rows past) b n → IsWithin b.header.level old × IsWithin b.header.level n
-unfolding IsWithin
-money_fits s b rows old n past told leads = (
-  subst (λ m. money b.header.level m ≤ 2 * max_balance) (sym told) leads.most,
-  (let l = leads.within in omega arith),
-)
-
-pub steps_ok : (s : Before) (tail : List Entry) (b : Block) (rows new : BTreeMap Key Stored) (old : RowMap) (d : RoundDelta) → s.hash ≡ header_hash_of s.header → old ≡ bare (from_entries rows.entries) → d.round ≡ b.header.round
-    → (n : RowMap) × (block_rows s (units_before s) tail b old ≡ Ok n) × AreChanges old n (map change_of d.changes) → ((n : RowMap) → block_rows s (units_before s) tail b old ≡ Ok n → raised b.header.level s.totals ≡ counts b.header.level old → IsWithin b.header.level old → IsWithin b.header.level n → d.totals ≡ counts b.header.level n)
-    → IsNext d.round d.changes rows.entries new.entries → (past : List Txn) → tail ≡ map entry_of past → IsSoundBefore s rows past
-    → (t : State) × (step (begun s rows past) b ≡ Ok t) × (t.rows ≡ from_entries new.entries) × (d.totals ≡ counts_in t)
-unfolding step
-steps_ok s tail b rows new old d hash told round h follow next past entries is =
-    let st = begun s rows past in
-    let due : due_of st b ≡ Ok h.0 = due_is s tail b rows old past hash told entries is ∙ h.1 in
-    let leads = block_leads st b h.0 is.sound due in
-    let fits = money_fits s b rows old h.0 past told leads in (
-      after st b h.0,
-      ap (λ d. then_do d (λ m. Ok (after st b m))) due,
-      sym (left_is b rows new old h.0 d told round h.2 next),
-      follow h.0 h.1 (raised_is s b rows old h.0 past told is leads) fits.0 fits.1 ∙ sym (counts_after st b h.0),
-    )
 
 -- ---- the totals of a delta
 
@@ -129,3 +67,103 @@ totals_follow due s h old new risen totals d is block level raise count told n e
     let one : risen ≡ counts new.level new.block = raise fits ∙ anew ∙ ap₂ counts (sym level) (sym block) in
     let all = count one (subst (λ l. IsWithin l new.block) (sym level) (subst (IsWithin h.level) (sym block) before)) (subst (λ l. IsWithin l new.now) (sym level) (subst (IsWithin h.level) (sym now) after)) in
     told ∙ all ∙ ap₂ counts level now
+
+-- ---- a step over a sound state
+
+-- the units of a sound state can be counted
+units_are : (s : State) → Sound s → units_before (before_of s) ≡ all_units (counts_in s)
+units_are s sound = few_units s.header.level (bare s.rows) sound.money
+
+due_before : (s : State) (b : Block) → Sound s → block_rows (before_of s) (units_before (before_of s)) (map entry_of s.past) b (bare s.rows) ≡ due_of s b
+due_before s b sound = ap (λ u. block_rows (before_of s) u (map entry_of s.past) b (bare s.rows)) (units_are s sound)
+
+-- the totals at the new level, before anything else changes
+raised_before : (s : State) (b : Block) (n : RowMap) → Leads s b n → raised b.header.level (counts_in s) ≡ counts b.header.level (bare s.rows)
+raised_before s b n leads =
+    let up : s.header.level + (b.header.level - s.header.level) ≡ b.header.level = (let l = leads.rises in omega arith) in
+    sym (subst (λ l. counts l (bare s.rows) ≡ raised l (counts s.header.level (bare s.rows))) up (counts_raised s.header.level (b.header.level - s.header.level) (bare s.rows) leads.exact))
+
+fits_before : (s : State) (b : Block) (n : RowMap) → Leads s b n → IsWithin b.header.level (bare s.rows) × IsWithin b.header.level n
+unfolding IsWithin
+fits_before s b n leads = (leads.most, (let l = leads.within in omega arith))
+
+ok_step : (s : State) (b : Block) (d : RoundDelta) → Sound s → (n : RowMap) × (due_of s b ≡ Ok n) × AreChanges (bare s.rows) n (map change_of d.changes)
+    → ((n : RowMap) → due_of s b ≡ Ok n → raised b.header.level (counts_in s) ≡ counts b.header.level (bare s.rows) → IsWithin b.header.level (bare s.rows) → IsWithin b.header.level n → d.totals ≡ counts b.header.level n) → (t : State) × LeadsTo s b d t
+unfolding step
+ok_step s b d sound h follow =
+    let leads = block_leads s b h.0 sound h.1 in
+    let t = after s b h.0 in
+    let fits = fits_before s b h.0 leads in
+    let stepped : step s b ≡ Ok t = ap (λ d. then_do d (λ m. Ok (after s b m))) h.1 in (
+      t,
+      record {
+        stepped = stepped;
+        rows = subst (λ m. AreChanges (bare s.rows) m (map change_of d.changes)) (sym (bare_stamped b.header.round s.rows h.0)) h.2;
+        totals = follow h.0 h.1 (raised_before s b h.0 leads) fits.0 fits.1 ∙ sym (counts_after s b h.0);
+        sound = leads.sound;
+        money = step_keeps s t b sound stepped;
+      },
+    )
+
+due_err : (s : State) (b : Block) (r : Refusal) → due_of s b ≡ Err r → step s b ≡ Err r
+unfolding step
+due_err s b r e = ap (λ d. then_do d (λ m. Ok (after s b m))) e
+
+-- over what is due of a sound state
+sound_step : {F : Type 0} (s : State) (b : Block) (r : Result RoundDelta (EvalRefusal F)) → Sound s → Evals (due_of s b) (bare s.rows) r → TotalsFollow (due_of s b) (before_of s) b.header (bare s.rows) r → IsStep s b r
+sound_step s b (Ok d) sound h follow = ok_step s b d sound h follow
+sound_step s b (Err (answer.Broken p r)) sound h follow = (due_err s b (broken p r) h, block_within s b p r sound h)
+sound_step s b (Err (answer.Header f)) sound h follow = due_err s b (header f) h
+sound_step s b (Err (answer.PoolShort p o)) sound h follow = absurd (block_pays s b p o sound h)
+sound_step s b (Err (answer.View f)) sound h follow = tt
+sound_step s b (Err answer.Memory) sound h follow = tt
+
+-- `eval` over a sound state is the step
+pub eval_is_step : {F : Type 0} (known : Before) (tail : List Entry) (rows : RowMap) (b : Block) (r : Result RoundDelta (EvalRefusal F)) → Evals (block_rows known (units_before known) tail b rows) rows r → TotalsFollow (block_rows known (units_before known) tail b rows) known b.header rows r
+    → (s : State) → known ≡ before_of s → tail ≡ map entry_of s.past → rows ≡ bare s.rows → Sound s → IsStep s b r
+eval_is_step known tail rows b r h follow s is entries told sound =
+    let due : block_rows known (units_before known) tail b rows ≡ due_of s b =
+    ap (λ (k : Before). block_rows k (units_before k) tail b rows) is ∙ ap₂ (λ (es : List Entry) (m : RowMap). block_rows (before_of s) (units_before (before_of s)) es b m) entries told ∙ due_before s b sound in
+    sound_step s b r sound
+    (subst (λ m. Evals (due_of s b) m r) told (subst (λ d. Evals d rows r) due h))
+    (subst (λ m. TotalsFollow (due_of s b) (before_of s) b.header m r) told (subst (λ (k : Before). TotalsFollow (due_of s b) k b.header rows r) is (subst (λ d. TotalsFollow d known b.header rows r) due follow)))
+
+-- ---- a step over rows in a tree
+
+unfoldable known : Before → List ℕ → Totals → Before
+known s hash totals = record s { hash = hash; totals = totals }
+
+-- what a step begins with is what is known of the state
+known_is : (s : Before) (rows : BTreeMap Key Stored) (past : List Txn) → s.hash ≡ header_hash_of s.header → IsSoundBefore s rows past → s ≡ before_of (begun s rows past)
+unfolding known
+known_is s rows past hash is = ap₂ (known s) hash is.totals
+
+-- what the block changed, put over the rows before
+left_is : (b : Block) (rows new : BTreeMap Key Stored) (old n : RowMap) (d : RoundDelta) → old ≡ bare (from_entries rows.entries) → d.round ≡ b.header.round → AreChanges old n (map change_of d.changes) → IsNext d.round d.changes rows.entries new.entries
+    → from_entries new.entries ≡ stamped b.header.round (from_entries rows.entries) n
+left_is b rows new old n d told round h next =
+    next_is d.round rows new n d.changes (subst (λ (m : RowMap). AreChanges m n (map change_of d.changes)) told h) next ∙ ap (λ r. stamped r (from_entries rows.entries) n) round
+
+shown : {F : Type 0} (s : State) (b : Block) (e : EvalRefusal F) → IsStep s b (Err e) → Steps (step s b) (Err e)
+shown s b (answer.Broken p r) h = h.0
+shown s b (answer.Header f) h = h
+shown s b (answer.PoolShort p o) h = absurd h
+shown s b (answer.View f) h = tt
+shown s b answer.Memory h = tt
+
+pub steps_err : {F : Type 0} (s : Before) (tail : List Entry) (b : Block) (rows : BTreeMap Key Stored) (old : RowMap) (e : EvalRefusal F) → s.hash ≡ header_hash_of s.header → old ≡ bare (from_entries rows.entries)
+    → ((t : State) → s ≡ before_of t → tail ≡ map entry_of t.past → old ≡ bare t.rows → Sound t → IsStep t b (Err e)) → (past : List Txn) → tail ≡ map entry_of past → IsSoundBefore s rows past → Steps (step (begun s rows past) b) (Err e)
+steps_err s tail b rows old e hash told h past entries is = shown (begun s rows past) b e (h (begun s rows past) (known_is s rows past hash is) entries told is.sound)
+
+pub steps_ok : (s : Before) (tail : List Entry) (b : Block) (rows new : BTreeMap Key Stored) (old : RowMap) (d : RoundDelta) → s.hash ≡ header_hash_of s.header → old ≡ bare (from_entries rows.entries) → d.round ≡ b.header.round
+    → ((t : State) → s ≡ before_of t → tail ≡ map entry_of t.past → old ≡ bare t.rows → Sound t → (n : State) × LeadsTo t b d n) → IsNext d.round d.changes rows.entries new.entries
+    → (past : List Txn) → tail ≡ map entry_of past → IsSoundBefore s rows past → (t : State) × (step (begun s rows past) b ≡ Ok t) × (t.rows ≡ from_entries new.entries) × (d.totals ≡ counts_in t)
+unfolding step
+steps_ok s tail b rows new old d hash told round h next past entries is =
+    let st = begun s rows past in
+    let r = h st (known_is s rows past hash is) entries told is.sound in
+    let o = step_ok st r.0 b (due_of st b) r.1.stepped in
+    let after_is : r.0.rows ≡ stamped b.header.round st.rows o.0 = ap (λ (u : State). u.rows) (sym o.2) in
+    let now : bare r.0.rows ≡ o.0 = ap bare after_is ∙ bare_stamped b.header.round st.rows o.0 in
+    let changes : AreChanges old o.0 (map change_of d.changes) = subst (λ m. AreChanges m o.0 (map change_of d.changes)) (sym told) (subst (λ m. AreChanges (bare st.rows) m (map change_of d.changes)) now r.1.rows) in
+    (r.0, r.1.stepped, after_is ∙ sym (left_is b rows new old o.0 d told round changes next), r.1.totals)

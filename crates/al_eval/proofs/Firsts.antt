@@ -44,7 +44,7 @@ abbrev seated : RowMap → List GenesisRow → RowMap
 seated m [] = m
 seated m (a ∷ more) = seated (set_account m a.address a.row) more
 
-bare_set : (m : FinMap key_cmp Stored) (k : Key) (o : Option Row) → bare (set_at m k (stored_at 0 o)) ≡ set_at (bare m) k o
+pub bare_set : (m : FinMap key_cmp Stored) (k : Key) (o : Option Row) → bare (set_at m k (stored_at 0 o)) ≡ set_at (bare m) k o
 bare_set m k o = same_map keys_total exact_keys (bare (set_at m k (stored_at 0 o))) (set_at (bare m) k o) (λ q.
     get-map_entries exact_keys (λ k (s : Stored). s.row) (set_at m k (stored_at 0 o)) q
     ∙ ap (option_map (λ (s : Stored). s.row)) (get-set_at keys_total m k (stored_at 0 o) q)
@@ -64,19 +64,19 @@ bare_accounts : (m : FinMap key_cmp Stored) (xs : List GenesisRow) → bare (wit
 bare_accounts m [] = refl
 bare_accounts m (a ∷ xs) = bare_accounts (with_account m a) xs ∙ ap (λ n. seated n xs) (bare_set m (key.Account a.address) (unless_zero (row.Account a.row)))
 
-abbrev nothing : RowMap
+abbrev pub nothing : RowMap
 nothing = from_entries []
 
 account_none : (who : Address) → account nothing who ≡ no_account
 account_none who = ap account_in (get-empty key_cmp (key.Account who))
 
-entries_none : entries nothing ≡ []
+pub entries_none : entries nothing ≡ []
 entries_none = ap entries (same_map keys_total exact_keys nothing (from_sorted []) (λ q. get-empty key_cmp q ∙ sym (get-from_sorted key_cmp [] q tt))) ∙ entries-from_sorted key_cmp [] tt
 
 total_none : (w : Key → Row → ℕ) → total w nothing ≡ 0
 total_none w = ap (sum_by (λ (e : Key × Row). w e.0 e.1)) entries_none
 
-bare_nothing : bare (from_entries []) ≡ nothing
+pub bare_nothing : bare (from_entries []) ≡ nothing
 bare_nothing = same_map keys_total exact_keys (bare (from_entries [])) nothing (λ q. get-map_entries exact_keys (λ k (s : Stored). s.row) (from_entries []) q ∙ ap (option_map (λ (s : Stored). s.row)) (get-empty key_cmp q) ∙ sym (get-empty key_cmp q))
 
 -- the rows that a genesis record begins with
@@ -139,7 +139,7 @@ no_money = total_none (λ k r. worth 0 r)
 
 -- ---- sink and pool among them
 
-less : (a b : Address) → is_lt (slice_cmp nat_cmp a.0 b.0) ≡ true → key_cmp (key.Account a) (key.Account b) ≡ Less
+pub less : (a b : Address) → is_lt (slice_cmp nat_cmp a.0 b.0) ≡ true → key_cmp (key.Account a) (key.Account b) ≡ Less
 less a b e = by_order (key_cmp (key.Account a) (key.Account b)) e
   where
     by_order : (r : Ordering) → is_lt r ≡ true → r ≡ Less

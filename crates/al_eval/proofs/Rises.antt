@@ -3,7 +3,7 @@ use Rattle.std.proofs.Common.{◌≡◌, ◌≤◌, ◌+◌, ◌-◌, ◌*◌, �
 use Rattle.std.specs.FinMap.{get}
 use Rattle.std.specs.BTreeMap.{is_at}
 use Rattle.al_base.specs.declared.account.Status.{Status}
-use Rattle.al_base.specs.declared.account.Status.TheVariants.{Offline, Online, NotParticipating}
+use Rattle.al_base.specs.declared.account.Status.TheVariants.{NotParticipating}
 use Rattle.al_base.specs.declared.address.Address.{Address}
 use Rattle.al_base.specs.declared.key.Key.{Key}
 use Rattle.al_base.specs.declared.key.Key.TheVariants as key
@@ -11,37 +11,18 @@ use Rattle.al_base.specs.Keys.{key_cmp}
 use Rattle.al_rewards.specs.declared.share.Share.{Share}
 use Rattle.al_rewards.specs.Next.{least_pool}
 use Rattle.al_rewards.specs.Pending.{is_apart, pending, max_balance}
-use Rattle.al_rewards.specs.Totals.{all_units}
 use Rattle.al_rows.specs.declared.account.AccountRow.{AccountRow}
 use Rattle.al_rows.specs.declared.row.Row.{Row}
 use Rattle.al_rows.specs.declared.row.Row.TheVariants as row
 use Rattle.al_rows.specs.Finite.{set_at, weight, total}
-use Rattle.al_rows.specs.Rows.{RowMap, same_status, account, account_in, set_account}
+use Rattle.al_rows.specs.Rows.{RowMap, account, account_in, set_account}
 use Rattle.al_rows.proofs.Keys.{keys_total, exact_keys}
-use Rattle.al_rows.proofs.Maps.{total-remove, total-same, total-plus, weight-le-total}
+use Rattle.al_rows.proofs.Maps.{total-remove, weight-le-total}
 use Rattle.al_moves.specs.Moves.{share_of}
-use Rattle.al_moves.specs.Money.{IsExact, worth, money, units, units_at, counts}
+use Rattle.al_moves.specs.Money.{IsExact, worth, money, units}
 use Rattle.al_moves.proofs.Overlays.{get-set, same_key}
 use Rattle.al_moves.proofs.Monies.{pending_apart, weight_account, worth-le-money, money_set, money_raised}
 use Rattle.al_eval.proofs.Steadies.{AllBased}
-
--- ---- all units
-
-units_split : (r : Row) → units r ≡ units_at Online r + units_at Offline r
-units_split (row.Account r) = elim r.status as (λ s. (if is_apart s then 0 else r.balance / 1000000) ≡ (if same_status s Online then r.balance / 1000000 else 0) + (if same_status s Offline then r.balance / 1000000 else 0)) [
-  | Offline ↦ omega arith
-  | Online ↦ omega arith
-  | NotParticipating ↦ refl
-]
-units_split (row.Asset a) = refl
-units_split (row.App a) = refl
-units_split (row.Box b) = refl
-
--- the units that are counted are those of all accounts
-pub units_counted : (level : ℕ) (m : RowMap) → all_units (counts level m) ≡ total (λ k r. units r) m
-unfolding counts
-units_counted level m =
-    sym (total-same keys_total (λ k r. units r) (λ k r. units_at Online r + units_at Offline r) m (λ k r _. units_split r) ∙ total-plus keys_total (λ k r. units_at Online r) (λ k r. units_at Offline r) m)
 
 -- ---- one account and the pool
 

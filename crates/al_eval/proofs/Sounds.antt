@@ -28,7 +28,8 @@ use Rattle.al_eval.proofs.Chains.{IsPassed, BlockIs, IsFairAt, is_short, after_p
 use Rattle.al_eval.proofs.Pools.{CanPay, due_until, can_pay}
 use Rattle.al_eval.proofs.Steadies.{Keeps, AllBased, IsForOthers, counts_of, at_set, at_unless, no_zero, stays_set, keeps_account, keeps_on}
 use Rattle.al_eval.proofs.Calms.{IsCalm, items_calm}
-use Rattle.al_eval.proofs.Rises.{units_counted, exact_rows, money_before, money_risen}
+use Rattle.al_moves.proofs.Counts.{units_counted}
+use Rattle.al_eval.proofs.Rises.{exact_rows, money_before, money_risen}
 
 none_if : (b : Bool) (f : Field) → (if b then None else Some f) ≡ None → b ≡ true
 none_if true f e = refl
@@ -112,7 +113,7 @@ module _ (s : State) (b : Block) (sound : Sound s) where
   -- ---- the pool pays
 
   units_are : all ≡ total (λ k r. units r) rows
-  units_are = units_counted s.header.level rows
+  units_are = sym (units_counted s.header.level rows)
 
   level_is : IsPassed (before_of s) all b rows → b.header.level ≡ s.header.level + rise
   level_is h = omega (arith, (pays h).rises)

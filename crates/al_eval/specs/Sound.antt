@@ -1,7 +1,8 @@
 -- What makes a state sound: its counts are those of its rows, all its money is at most what one balance may be, and the pool can pay what is due until the rate is computed anew.
-use Rattle.std.specs.Prelude.{List, ◌≡◌, ◌≢◌, ℕ, ◌+◌, ◌-◌, ◌*◌, ◌≤◌, ◌<◌, Bool, true, false, nat_eq, if◌then◌else◌, length, is_some}
+use Rattle.std.specs.Prelude.{List, map, ⊤, ◌≡◌, ◌≢◌, ℕ, ◌+◌, ◌-◌, ◌*◌, ◌≤◌, ◌<◌, Bool, true, false, nat_eq, if◌then◌else◌, length, is_some}
 use Rattle.std.specs.declared.option.Option.{Option}
 use Rattle.std.specs.declared.option.Option.TheVariants.{None, Some}
+use Rattle.std.specs.declared.result.Result.{Result}
 use Rattle.std.specs.declared.result.Result.TheVariants.{Ok, Err}
 use Rattle.std.specs.FinMap.{get, from_entries}
 use Rattle.std.specs.BTreeMap.{BTreeMap}
@@ -27,16 +28,19 @@ use Rattle.al_rows.specs.Finite.{total}
 use Rattle.al_rows.specs.Rows.{RowMap, bare, account, has_params}
 use Rattle.al_base.specs.declared.asset.AssetParams.{AssetParams}
 use Rattle.al_moves.specs.declared.rule.Rule.{Rule}
-use Rattle.al_moves.specs.Moves.{same_address}
+use Rattle.al_moves.specs.Moves.{AreChanges, change_of, same_address}
 use Rattle.al_moves.specs.Money.{money}
 use Rattle.al_eval.specs.declared.genesis.Genesis.{Genesis}
 use Rattle.al_eval.specs.Genesis.{IsGenesis}
 use Rattle.al_eval.specs.Start.{start, start_totals}
 use Rattle.al_eval.specs.State.{State, step, counts_in}
+use Rattle.al_deltas.specs.declared.delta.RoundDelta.{RoundDelta}
 use Rattle.al_eval.specs.declared.before.Before.{Before}
+use Rattle.al_eval.specs.declared.before.EvalRefusal.{EvalRefusal}
+use Rattle.al_eval.specs.declared.before.EvalRefusal.TheVariants as answer
 use Rattle.al_rows.specs.declared.stored.Stored.{Stored}
 use Rattle.al_txn.specs.declared.txn.Txn.{Txn}
-use Rattle.al_eval.specs.Steps.{broken, pool_short}
+use Rattle.al_eval.specs.Steps.{broken, header, pool_short}
 
 abbrev pub one_if : Bool → ℕ
 one_if b = if b then 1 else 0
@@ -173,6 +177,25 @@ begun s rows past = record { chain = s.chain; header = s.header; rows = from_ent
 pub record IsSoundBefore (s : Before) (rows : BTreeMap Key Stored) (past : List Txn) : Type 0 where
   pub sound : Sound (begun s rows past)
   pub totals : s.totals ≡ counts_in (begun s rows past)
+
+-- ---- what a step over a sound state answers
+
+-- what a delta leads to: the state that is due, which is sound, with its rows, its totals and the same money
+pub record LeadsTo (s : State) (b : Block) (d : RoundDelta) (t : State) : Type 0 where
+  pub stepped : step s b ≡ Ok t
+  pub rows : AreChanges (bare s.rows) (bare t.rows) (map change_of d.changes)
+  pub totals : d.totals ≡ counts_in t
+  pub sound : Sound t
+  pub money : money t.header.level (bare t.rows) ≡ money s.header.level (bare s.rows)
+
+-- the delta of the step, or its refusal: the pool can pay, and no balance passes the most
+abbrev pub IsStep : {F : Type 0} → State → Block → Result RoundDelta (EvalRefusal F) → Type 0
+IsStep s b (Ok d) = (t : State) × LeadsTo s b d t
+IsStep s b (Err (answer.Broken place rule)) = (step s b ≡ Err (broken place rule)) × (rule.number ≢ 41)
+IsStep s b (Err (answer.Header f)) = step s b ≡ Err (header f)
+IsStep s b (Err (answer.PoolShort pool owed)) = ⊥
+IsStep s b (Err (answer.View f)) = ⊤
+IsStep s b (Err answer.Memory) = ⊤
 
 -- ---- laws
 

@@ -2,7 +2,10 @@
 ghost use Rattle.std.specs.Prelude.{◌≡◌, ◌≤◌, ◌+◌, ◌^◌, true, Ok, IfOk, IfSome, OnOk, map, All, length};
 ghost use Rattle.std.specs.List.Sorted.{IsStrictlySortedBy};
 ghost use Rattle.al_base.specs.Keys.{key_cmp};
-ghost use Rattle.al_rows.specs.Rows.{IsKept};
+ghost use Rattle.al_rows.specs.Rows.{IsKept, bare};
+ghost use Rattle.al_eval.specs.Past.{entry_of};
+ghost use Rattle.al_eval.specs.Sound.{IsStep, Sound};
+ghost use Rattle.al_eval.specs.State.{State, before_of};
 ghost use Rattle.al_eval.specs.Steps.{Evals, IsCounted, IsDeltaOf, Runs, TotalsFollow, block_rows, counter_fault, payset_fault, units_before, unless_fault};
 
 use crate::header::{header_fault, is_sum, rewards_fault};
@@ -154,7 +157,9 @@ fn eval_over<V: RowView>(
 /// of the payset, then each group in order, and last the count of transactions. A group is looked
 /// at as a whole, and then each of its members in order. Bodies other than payments do nothing, and
 /// the list of expired accounts is not looked at. `before` tells the totals at the level of the
-/// last block; those of the delta are at the new level.
+/// last block; those of the delta are at the new level. Over a sound state, with what is known of
+/// it, this is the ledger's step: the state after it is sound, all its money stays, and the block is
+/// never refused because the pool could not pay.
 pub fn eval<V: RowView>(
     alloc: Global,
     view: &mut V,
@@ -165,6 +170,7 @@ pub fn eval<V: RowView>(
     requires { block.now.header.round ≤ 2 ^ 62 }
     ensures step { V.tells ≡ true → Evals (block_rows before.now (units_before before.now) tail.now block.now (V.rows view.old)) (V.rows view.old) result }
     ensures totals { V.tells ≡ true → TotalsFollow (block_rows before.now (units_before before.now) tail.now block.now (V.rows view.old)) before.now block.now.header (V.rows view.old) result }
+    ensures sound { V.tells ≡ true → (s : State) → before.now ≡ before_of s → tail.now ≡ map entry_of s.past → V.rows view.old ≡ bare s.rows → Sound s → IsStep s block.now result }
     ensures cause { IsCounted result (V.failures view.old) (V.failures view.new) }
     ensures same { V.tells ≡ true → V.rows view.new ≡ V.rows view.old }
     ensures ordered { IfOk result (λ d. IsStrictlySortedBy key_cmp (map (λ c. c.key) d.changes)) }
