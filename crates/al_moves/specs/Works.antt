@@ -8,11 +8,13 @@ use Rattle.std.specs.FinMap.{get}
 use Rattle.std.specs.BTreeMap.{is_at}
 use Rattle.std.specs.Map.{lookup}
 use Rattle.al_base.specs.declared.account.Special.{Special}
+use Rattle.al_base.specs.declared.address.Address.{Address}
 use Rattle.al_base.specs.declared.key.Key.{Key}
+use Rattle.al_base.specs.declared.key.Key.TheVariants as key
 use Rattle.al_rows.specs.declared.row.Row.{Row}
 use Rattle.al_base.specs.Keys.{key_cmp}
 use Rattle.al_rows.specs.Finite.{or_below}
-use Rattle.al_rows.specs.Rows.{RowMap, IsKept, unless_zero}
+use Rattle.al_rows.specs.Rows.{RowMap, IsKept, has_params, unless_zero}
 use Rattle.al_base.specs.Causes.{Rose}
 use Rattle.al_moves.specs.declared.rule.Rule.{Rule}
 use Rattle.al_moves.specs.declared.rule.Stop.{Stop}
@@ -102,3 +104,7 @@ pub record IsDone {F T : Type 0} (tells : Bool) (due : Result RowMap Rule) (old 
   pub fixed : IsFixed tells old new
   pub gives : tells ≡ true → Gives due result new.now
   pub cause : IsCounted result old.failures new.failures
+
+-- every sound state has at most one creator of an id; a view shows only the least, so behind changes a second one could not be known
+abbrev pub HasOneCreator : RowMap → ℕ → Type 0
+HasOneCreator m id = (a b : Address) (r s : Row) → get m (key.Resource a id) ≡ Some r → get m (key.Resource b id) ≡ Some s → has_params r ≡ true → has_params s ≡ true → a ≡ b

@@ -1,6 +1,7 @@
 //! Moves of algos over changed rows.
 #![tactic(auto)]
 
+mod creator;
 mod laws;
 mod minimum;
 mod rule;

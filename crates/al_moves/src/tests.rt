@@ -1,7 +1,7 @@
 use super::*;
-use al_base::{Address, Key, Special, Status};
+use al_base::{Address, AssetParams, Bytes, Key, Special, Status};
 use al_rewards::{Count, Totals};
-use al_rows::{AccountRow, MapView, Never, Row, account_in};
+use al_rows::{AccountRow, AssetRow, Holding, MapView, Never, Row, account_in};
 use al_txn::Pay;
 use std::alloc::{AllocError, Global};
 use std::collections::BTreeMap;
@@ -187,5 +187,88 @@ fn totals_after_payments(rt: HostRuntime) -> Result<(), Fail> {
         work.totals(&before),
         counted([0, 0, 3_199_998, 3, 10_201_000, 10])
     );
+    Ok(())
+}
+
+/// Changes of rows of an asset that the payer made: whose row, whether it has the asset's params
+/// then, and the creator after it. A row without params is none.
+const CREATORS: [(Address, bool, Option<Address>); 8] = [
+    // Beside the row from before, which did not change.
+    (RECEIVER, true, Some(PAYER)),
+    (SINK, true, Some(SINK)),
+    (SINK, false, Some(PAYER)),
+    // It goes, and comes again.
+    (PAYER, false, Some(RECEIVER)),
+    (RECEIVER, false, None),
+    (VOTER, true, Some(VOTER)),
+    (PAYER, true, Some(PAYER)),
+    (VOTER, false, Some(PAYER)),
+];
+
+fn created(alloc: Global) -> Result<AssetRow, AllocError> {
+    Ok(AssetRow {
+        params: Some(AssetParams {
+            total: 1,
+            decimals: 0,
+            default_frozen: false,
+            unit: Bytes::of(alloc, b"u")?,
+            name: Bytes::of(alloc, b"n")?,
+            url: Bytes::of(alloc, b"l")?,
+            meta: [0; 32],
+            manager: NOBODY,
+            reserve: NOBODY,
+            freeze: NOBODY,
+            clawback: NOBODY,
+        }),
+        holding: None,
+    })
+}
+
+// The payer's asset, which another holds.
+fn one_asset(alloc: Global) -> Result<MapView, AllocError> {
+    let held = AssetRow {
+        params: None,
+        holding: Some(Holding {
+            amount: 1,
+            frozen: false,
+        }),
+    };
+    let mut rows = BTreeMap::new(alloc);
+    rows.insert(Key::Resource(PAYER, 7), Row::Asset(created(alloc)?))?;
+    rows.insert(Key::Resource(SINK, 7), Row::Asset(held))?;
+    Ok(MapView::new(alloc, rows))
+}
+
+fn set_created(
+    alloc: Global,
+    work: &mut Work<MapView>,
+    who: Address,
+    has_params: bool,
+) -> Result<(), Stop<Never>> {
+    if !has_params {
+        return work.set(&Key::Resource(who, 7), None);
+    }
+    match created(alloc) {
+        Ok(row) => work.set(&Key::Resource(who, 7), Some(Row::Asset(row))),
+        Err(_) => Err(Stop::Memory),
+    }
+}
+
+#[test]
+fn creators(rt: HostRuntime) -> Result<(), Fail> {
+    let special = Special {
+        sink: SINK,
+        pool: POOL,
+    };
+    let view = one_asset(rt.alloc())?;
+    let mut work = Work::new(rt.alloc(), view, special, 0, 1);
+    assert!(rt; work.creator(7).ok() == Some(Some(PAYER)));
+    for (who, has_params, creator) in CREATORS {
+        set_created(rt.alloc(), &mut work, who, has_params)
+            .ok()
+            .ok_or("set")?;
+        assert!(rt; work.creator(7).ok() == Some(creator));
+        assert!(rt; work.creator(8).ok() == Some(None));
+    }
     Ok(())
 }

@@ -7,11 +7,12 @@ ghost use Rattle.al_base.specs.Causes.{Rose};
 ghost use Rattle.al_base.specs.Keys.{key_cmp};
 ghost use Rattle.al_rewards.specs.Pending.{max_balance};
 ghost use Rattle.al_rows.specs.Finite.{set_at, or_below, overlaid};
-ghost use Rattle.al_rows.specs.Rows.{AccountInRange, CountsInRange, InRange, IsKept, RowMap, account, same_row};
+ghost use Rattle.al_rows.specs.Rows.{AccountInRange, CountsInRange, InRange, IsKept, RowMap, account, creator_of, same_row};
 ghost use Rattle.al_moves.specs.Money.{IsWithin, counts};
 ghost use Rattle.al_moves.specs.Moves.{AreChanges, change_of, checked, closed, closed_at, credited, differing, give, has_no_counts, moved, paid, paid_amount, paid_close, put_account, rekeyed, take_in};
-ghost use Rattle.al_moves.specs.Works.{Does, IsNoRule, IsWork, Looks, at, nonzero, now_at};
+ghost use Rattle.al_moves.specs.Works.{Does, HasOneCreator, IsNoRule, IsWork, Looks, at, nonzero, now_at};
 
+use crate::creator::creator_over;
 use crate::minimum::{earned, first_shortfall};
 use crate::totals::totals_of;
 use crate::{Rule, Stop};
@@ -144,6 +145,21 @@ impl<V: RowView> Work<V> {
         }
         match self.view.row(key) {
             Ok(row) => Ok(row),
+            Err(ViewFault::Failed(fault)) => Err(Stop::View(fault)),
+            Err(ViewFault::Memory) => Err(Stop::Memory),
+        }
+    }
+
+    /// The creator of an asset or an application with the changes so far: the address whose row
+    /// of it has its params, and the least where there are more. It goes over the rows changed so
+    /// far. Nothing is said where two addresses had its params before the block, which no sound
+    /// state has.
+    pub fn creator(&mut self, id: u64) -> Result<Option<Address>, Stop<V::Fault>>
+        ensures looks { Looks V.tells self.old self.new result }
+        ensures value { V.tells ≡ true → HasOneCreator self.old.block id → IfOk result (λ who. who ≡ creator_of self.old.now id) }
+    {
+        match self.view.creator(id) {
+            Ok(viewed) => Ok(creator_over(id, viewed, &self.rows)),
             Err(ViewFault::Failed(fault)) => Err(Stop::View(fault)),
             Err(ViewFault::Memory) => Err(Stop::Memory),
         }
