@@ -1,12 +1,10 @@
-use crate::link::{Caller, Ended, serve_link};
-use crate::run::run;
-use crate::states::States;
-use crate::words::Words;
 use al_base::{
     Bytes, Failed, Files, Folder, FolderRefusal, MemFolder, MemSink, MemSource, NamedFile, Sink,
     Source,
 };
 use al_eval::Genesis;
+use al_session::{Caller, Ended, Words, run, serve_link};
+use al_states::States;
 use std::alloc::{AllocError, Global};
 use std::test::*;
 

@@ -1,8 +1,0 @@
-pub mod TakingLemmas
-pub mod KeepLemmas
-pub mod BuiltLemmas
-pub mod OpenLemmas
-pub mod ServeLemmas
-pub mod ToldLemmas
-pub mod RunLemmas
-pub mod SoundLemmas

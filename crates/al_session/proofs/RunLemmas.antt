@@ -1,0 +1,47 @@
+-- A run of the program that comes to serving.
+use Rattle.std.proofs.Common.{◌≡◌, ℕ, List, sym, subst, inr, Option, Some, None, Ok, Err}
+use Rattle.al_base.specs.Folders.{FileMap, Reads}
+use Rattle.al_base.specs.Causes.{Rose}
+use Rattle.al_session.specs.declared.link.Ended.{Ended}
+use Rattle.al_session.specs.declared.link.Ended.TheVariants as ended
+use Rattle.al_states.specs.declared.states.States.{States}
+use Rattle.al_states.specs.declared.states.OpenFault.{OpenFault}
+use Rattle.al_states.specs.declared.states.OpenFault.TheVariants as faults
+use Rattle.al_states.proofs.OpenLemmas.{refused_digit}
+use Rattle.al_session.specs.Connection.{Serves}
+use Rattle.al_states.specs.Held.{Held}
+use Rattle.al_states.specs.Keeping.{IsStates, held}
+use Rattle.al_states.specs.Opening.{Opens}
+use Rattle.al_session.specs.Sessions.{Outside, Holds, IsServed, IsDigit, RunsOf, Runs, session_file, status_of}
+use Rattle.al_states.proofs.KeepLemmas.{states_valid}
+use Rattle.al_states.proofs.SoundLemmas.{states_money}
+
+-- what a read answers is what the folder holds
+pub read_holds : (before now : Option FileMap) (name : List ℕ) (limit : ℕ) (found : Option (List ℕ)) → Reads before now name limit (Ok found) → Holds before name found
+read_holds None now name limit found x = tt
+read_holds (Some before) None name limit found x = absurd x
+read_holds (Some before) (Some now) name limit found x = sym x.1
+
+pub served_runs : (words : List (List ℕ)) (name file : List ℕ) (before after : Outside) (n : ℕ) (s t : States) (e : Ended) → Some name ≡ session_file words → Holds before.files name (Some file) → Opens file (Ok s) → Serves (held s) (held t) before.left after.left before.written after.written e → IsStates t → (e ≡ ended.SourceFault → Rose before.source_faults after.source_faults) → (e ≡ ended.SinkFault → Rose before.sink_faults after.sink_faults) → n ≡ status_of e
+    → Runs words before after n
+served_runs words name file before after n s t e named holds opened serves kept source sink is =
+    let x : IsServed name before after n = record {
+      file = file;
+      holds = holds;
+      genesis = opened.1.0;
+      decodes = opened.1.1;
+      held = held t;
+      end = e;
+      serves = subst (λ (h : Held). Serves h (held t) before.left after.left before.written after.written e) opened.1.2 serves;
+      valid = states_valid t kept;
+      money = states_money t kept;
+      status = is;
+      source_fault = source;
+      sink_fault = sink;
+    } in
+    subst (λ o. RunsOf o before after n) named (inr (inr (inr x)))
+
+-- the number that is shown of a file that opens nothing is a digit
+pub shown_digit : (file : List ℕ) (f : OpenFault) → Opens file (Err f) → IsDigit f
+shown_digit file (faults.Genesis n) x = refused_digit file n x
+shown_digit file faults.Memory x = tt

@@ -1,0 +1,283 @@
+-- One connection, piece by piece.
+use Rattle.std.proofs.Common.{◌≡◌, ◌≤◌, ◌<◌, ◌⊎◌, inl, inr, ◌+◌, ◌-◌, ℕ, List, [], ◌∷◌, ◌++◌, length, take, drop, map, refl, sym, ap, ◌∙◌, arith, subst, append_assoc, length-append, Option, Some, None, All}
+use Rattle.std.proofs.lemmas.List.{append-nil, take-append-le, take_at, drop_at, map_push, nil_from_length}
+use Rattle.std.proofs.lemmas.List.Concat.{flat_map-append}
+use Rattle.std.proofs.lemmas.List.Elements.{All-push, All-nil}
+use Rattle.std.specs.List.{flat_map}
+use mathlib.Core.List.{IsPrefix}
+use Rattle.httparse.specs.Grammar.{print_request}
+use Rattle.al_base.specs.Causes.{Left, Wrote, IsAtEnd}
+use Rattle.al_block.specs.declared.block.Block.{Block}
+use Rattle.al_eval.specs.State.{State}
+use Rattle.al_http.specs.Answers.{answer_text, memory_answer, not_built_answer}
+use Rattle.al_http.specs.Requests.{Message, IsRequest, AsksFor, spell, stream_of, IsUnfinished}
+use Rattle.al_http.specs.declared.answer.Answer.{Answer}
+use Rattle.al_http.specs.declared.asking.Request.{Request}
+use Rattle.al_session.specs.declared.link.Ended.{Ended}
+use Rattle.al_session.specs.declared.link.Ended.TheVariants as ended
+use Rattle.al_states.specs.declared.states.Told.{Told}
+use Rattle.al_states.specs.Held.{Held}
+use Rattle.al_states.specs.Replies.{Replies, IsAnswer, Grows, IsAnswered}
+use Rattle.al_session.specs.Taking.{Grown, IsRefusedPiece}
+use Rattle.al_session.specs.Connection.{told_text, IsToldOf, Answers, last_front, Serving, Serves, EndsAs, IsWritten}
+use Rattle.al_session.proofs.TakingLemmas.{left_then, left_none}
+
+-- ---- lists of blocks
+
+prefix_self : (xs : List Block) → IsPrefix xs xs
+prefix_self xs = ([], append-nil xs)
+
+prefix_then : (xs ys zs : List Block) → IsPrefix xs ys → IsPrefix ys zs → IsPrefix xs zs
+prefix_then xs ys zs p q = (p.0 ++ q.0, sym (append_assoc xs p.0 q.0) ∙ ap (λ ws. ws ++ q.0) p.1 ∙ q.1)
+
+prefix_longer : (xs ys : List Block) → IsPrefix xs ys → length xs ≤ length ys
+prefix_longer xs ys p = omega (arith, ap length p.1, length-append xs p.0)
+
+prefix_take : (n : ℕ) (xs ys : List Block) → IsPrefix xs ys → n ≤ length xs → take n ys ≡ take n xs
+prefix_take n xs ys p fits = sym (ap (take n) p.1) ∙ take-append-le n xs p.0 fits
+
+prefix_of : (body : List ℕ) (xs ys : List Block) (a : Answer) → Grows body xs ys a → IsPrefix xs ys
+prefix_of body xs ys a (inl same) = ([], append-nil xs ∙ sym same)
+prefix_of body xs ys a (inr more) = (more.0 ∷ [], sym more.2)
+
+-- ---- answers
+
+-- an answer stays one as the blocks grow, and the front before may have been less
+answer_grows : (o : State) (xs ys : List Block) (low high : ℕ) (ask : Request) (body : List ℕ) (t : Told) → IsPrefix xs ys → low ≤ high → IsAnswer o xs high ask body t → IsAnswer o ys low ask body t
+answer_grows o xs ys low high ask body t p le x = record {
+  low_is = omega (arith, le, x.low_is);
+  within = (let more = prefix_longer xs ys p in omega (arith, x.within, more));
+  reply = subst (λ list. Replies o list ask body t.answer ⊎ (t.answer ≡ memory_answer)) (sym (prefix_take t.front xs ys p x.within)) x.reply;
+}
+
+answers_grow : (o : State) (xs ys : List Block) (low : ℕ) (ms : List Message) (ts : List Told) → IsPrefix xs ys → Answers o xs low ms ts → Answers o ys low ms ts
+answers_grow o xs ys low [] [] p h = tt
+answers_grow o xs ys low (m ∷ ms) (t ∷ ts) p h = ((h.0.0, h.0.1, answer_grows o xs ys low low h.0.0 m.body t p (omega arith) h.0.2), answers_grow o xs ys t.front ms ts p h.1)
+answers_grow o xs ys low [] (t ∷ ts) p h = absurd h
+answers_grow o xs ys low (m ∷ ms) [] p h = absurd h
+
+answers_more : (o : State) (blocks : List Block) (low : ℕ) (ms : List Message) (ts : List Told) (m : Message) (t : Told) → Answers o blocks low ms ts → IsToldOf o blocks (last_front low ts) m t → Answers o blocks low (ms ++ m ∷ []) (ts ++ t ∷ [])
+answers_more o blocks low [] [] m t h x = (x, tt)
+answers_more o blocks low (n ∷ ms) (u ∷ ts) m t h x = (h.0, answers_more o blocks u.front ms ts m t h.1 x)
+answers_more o blocks low [] (u ∷ ts) m t h x = absurd h
+answers_more o blocks low (n ∷ ms) [] m t h x = absurd h
+
+last_front-push : (low : ℕ) (ts : List Told) (t : Told) → last_front low (ts ++ t ∷ []) ≡ t.front
+last_front-push low [] t = refl
+last_front-push low (u ∷ ts) t = last_front-push u.front ts t
+
+-- ---- texts
+
+wrote_then : (a b c : Option (List ℕ)) (x y : List ℕ) → Wrote a b x → Wrote b c y → Wrote a c (x ++ y)
+wrote_then None b c x y p q = tt
+wrote_then (Some m) None c x y p q = absurd p
+wrote_then (Some m) (Some n) None x y p q = absurd q
+wrote_then (Some m) (Some n) (Some o) x y p q = q ∙ ap (λ zs. zs ++ y) p ∙ append_assoc m x y
+
+wrote_none : (a : Option (List ℕ)) → Wrote a a []
+wrote_none None = tt
+wrote_none (Some m) = sym (append-nil m)
+
+-- the texts as one
+joined : (told : List Told) → flat_map (λ text. text) (map told_text told) ≡ flat_map told_text told
+joined [] = refl
+joined (t ∷ told) = ap (λ zs. told_text t ++ zs) (joined told)
+
+joined_none : (told : List Told) → flat_map told_text told ≡ flat_map (λ text. text) (map told_text told ++ [])
+joined_none told = sym (ap (flat_map (λ text. text)) (append-nil (map told_text told)) ∙ joined told)
+
+joined_more : (told : List Told) (text : List ℕ) → flat_map told_text told ++ text ≡ flat_map (λ text. text) (map told_text told ++ text ∷ [])
+joined_more told text = sym (flat_map-append (λ text. text) (map told_text told) (text ∷ []) ∙ ap (λ zs. zs ++ (text ++ [])) (joined told) ∙ ap (λ zs. flat_map told_text told ++ zs) (append-nil text))
+
+flat_push : (told : List Told) (t : Told) → flat_map told_text (told ++ t ∷ []) ≡ flat_map told_text told ++ told_text t
+flat_push told t = flat_map-append told_text told (t ∷ []) ∙ ap (λ zs. flat_map told_text told ++ zs) (append-nil (told_text t))
+
+stream_more : (requests : List Message) (r : Message) (rest : List ℕ) → stream_of requests (spell r ++ rest) ≡ stream_of (requests ++ r ∷ []) rest
+stream_more requests r rest =
+    sym (append_assoc (flat_map spell requests) (spell r) rest)
+    ∙ ap (λ zs. zs ++ rest) (ap (λ zs. flat_map spell requests ++ zs) (sym (append-nil (spell r))) ∙ sym (flat_map-append spell requests (r ∷ [])))
+
+pub length_more : (requests : List Message) (r : Message) → length (flat_map spell (requests ++ r ∷ [])) ≡ length (flat_map spell requests) + length (spell r)
+length_more requests r =
+    ap length (flat_map-append spell requests (r ∷ []) ∙ ap (λ zs. flat_map spell requests ++ zs) (append-nil (spell r))) ∙ length-append (flat_map spell requests) (spell r)
+
+-- ---- while it is served
+
+pub begins : (h : Held) (a w : Option (List ℕ)) → Serving h h a a w w [] [] []
+begins h a w = record {
+  cut = left_none a;
+  each = All-nil IsRequest;
+  written = wrote_none w;
+  origin = refl;
+  lists = prefix_self h.blocks;
+  answers = tt;
+  top = omega arith;
+}
+
+-- more bytes wait
+pub took : (before after : Held) (a b c w v : Option (List ℕ)) (old new : List ℕ) (requests : List Message) (told : List Told) → Serving before after a b w v old requests told → Grown old new b c → Serving before after a c w v new requests told
+took before after a b c w v old new requests told s p = record {
+  cut = subst (Left a c) (append_assoc (flat_map spell requests) old p.got ∙ ap (λ zs. flat_map spell requests ++ zs) (sym p.more)) (left_then a b c (stream_of requests old) p.got s.cut p.left);
+  each = s.each;
+  written = s.written;
+  origin = s.origin;
+  lists = s.lists;
+  answers = s.answers;
+  top = s.top;
+}
+
+-- a request was answered, whatever was written of the answer
+pub record Replied (before after : Held) (a b : Option (List ℕ)) (rest : List ℕ) (requests : List Message) (told : List Told) : Type 0 where
+  pub cut : Left a b (stream_of requests rest)
+  pub each : All IsRequest requests
+  pub origin : after.origin ≡ before.origin
+  pub lists : IsPrefix before.blocks after.blocks
+  pub answers : Answers after.origin after.blocks (length before.blocks) requests told
+  pub top : last_front (length before.blocks) told ≤ length after.blocks
+
+-- what was sent is an answer: the one that was given, or that there is no memory
+sent_is : (o : State) (blocks : List Block) (low : ℕ) (ask : Request) (body : List ℕ) (t : Told) (sent : Answer) → (sent ≡ t.answer) ⊎ (sent ≡ memory_answer) → IsAnswer o blocks low ask body t → IsAnswer o blocks low ask body (record { front = t.front; answer = sent })
+sent_is o blocks low ask body t sent (inl same) x = record {
+  low_is = x.low_is;
+  within = x.within;
+  reply = subst (λ a. Replies o (take t.front blocks) ask body a ⊎ (a ≡ memory_answer)) (sym same) x.reply;
+}
+sent_is o blocks low ask body t sent (inr none) x = record { low_is = x.low_is; within = x.within; reply = inr none }
+
+-- the body of a request that waits
+body_of : (waiting : List ℕ) (m : Message) (rest : List ℕ) (used size : ℕ) → used ≡ length (print_request m.head) → size ≡ length m.body → waiting ≡ spell m ++ rest → take size (drop used waiting) ≡ m.body
+body_of waiting m rest used size is long same =
+    ap (λ zs. take size (drop used zs)) (same ∙ append_assoc (print_request m.head) m.body rest)
+    ∙ ap (take size) (drop_at (print_request m.head) (m.body ++ rest) used (sym is))
+    ∙ take_at m.body rest size (sym long)
+
+-- the same, of what is seen of the bytes that wait
+pub body_seen : (waiting seen : List ℕ) (m : Message) (rest : List ℕ) (used size : ℕ) → seen ≡ waiting → used ≡ length (print_request m.head) → size ≡ length m.body → waiting ≡ spell m ++ rest → take (used + size - used) (drop used seen) ≡ m.body
+body_seen waiting seen m rest used size view is long same =
+    let n : used + size - used ≡ size = omega arith in
+    ap (λ k. take k (drop used seen)) n ∙ ap (λ zs. take size (drop used zs)) view ∙ body_of waiting m rest used size is long same
+
+pub rest_of : (waiting : List ℕ) (m : Message) (rest : List ℕ) (used size : ℕ) → used ≡ length (print_request m.head) → size ≡ length m.body → waiting ≡ spell m ++ rest → drop (used + size) waiting ≡ rest
+rest_of waiting m rest used size is long same =
+    ap (drop (used + size)) same ∙ drop_at (spell m) rest (used + size) (omega (arith, is, long, length-append (print_request m.head) m.body))
+
+-- the ledger's answer to the request that waits was sent, or that there is no memory
+pub answered : (before mid after : Held) (a b w v : Option (List ℕ)) (waiting rest body : List ℕ) (requests : List Message) (told : List Told) (m : Message) (ask : Request) (size : ℕ) (t : Told) (sent : Answer) → Serving before mid a b w v waiting requests told
+    → IsRequest m → AsksFor m.head ask size → waiting ≡ spell m ++ rest → body ≡ m.body → IsAnswered mid after ask body t → (sent ≡ t.answer) ⊎ (sent ≡ memory_answer)
+    → Replied before after a b rest (requests ++ m ∷ []) (told ++ record { front = t.front; answer = sent } ∷ [])
+answered before mid after a b w v waiting rest body requests told m ask size t sent s valid asks is same x which =
+    let grows = prefix_of body mid.blocks after.blocks t.answer x.grows in
+    let out : Told = record { front = t.front; answer = sent } in
+    let first : IsAnswer after.origin after.blocks (length mid.blocks) ask body out = sent_is after.origin after.blocks (length mid.blocks) ask body t sent which x.told in
+    let second : IsAnswer after.origin after.blocks (last_front (length before.blocks) told) ask body out = answer_grows after.origin after.blocks after.blocks (last_front (length before.blocks) told) (length mid.blocks) ask body out (prefix_self after.blocks) s.top first in
+    let third : IsAnswer after.origin after.blocks (last_front (length before.blocks) told) ask m.body out = subst (λ bytes. IsAnswer after.origin after.blocks (last_front (length before.blocks) told) ask bytes out) same second in
+    let old : Answers after.origin mid.blocks (length before.blocks) requests told = subst (λ o. Answers o mid.blocks (length before.blocks) requests told) (sym x.origin) s.answers in
+    record {
+      cut = subst (Left a b) (ap (stream_of requests) is ∙ stream_more requests m rest) s.cut;
+      each = All-push IsRequest requests m s.each valid;
+      origin = x.origin ∙ s.origin;
+      lists = prefix_then before.blocks mid.blocks after.blocks s.lists grows;
+      answers = answers_more after.origin after.blocks (length before.blocks) requests told m out (answers_grow after.origin mid.blocks after.blocks (length before.blocks) requests told grows old) (ask, asks.0, third);
+      top = rw (last_front-push (length before.blocks) told out) x.told.within;
+    }
+
+-- the answer was written, and the connection goes on
+pub goes_on : (before after : Held) (a b w v u : Option (List ℕ)) (rest : List ℕ) (requests : List Message) (told : List Told) (m : Message) (t : Told) → Replied before after a b rest (requests ++ m ∷ []) (told ++ t ∷ []) → Wrote w v (flat_map told_text told)
+    → Wrote v u (told_text t) → Serving before after a b w u rest (requests ++ m ∷ []) (told ++ t ∷ [])
+goes_on before after a b w v u rest requests told m t x written put = record {
+  cut = x.cut;
+  each = x.each;
+  written = subst (Wrote w u) (sym (flat_push told t)) (wrote_then w v u (flat_map told_text told) (told_text t) written put);
+  origin = x.origin;
+  lists = x.lists;
+  answers = x.answers;
+  top = x.top;
+}
+
+-- ---- its ends
+
+-- no text stands behind the answers
+ends_whole : (before after : Held) (a b w v : Option (List ℕ)) (waiting : List ℕ) (requests : List Message) (told : List Told) (end : Ended) → Serving before after a b w v waiting requests told → IsWritten end (flat_map told_text told) (map told_text told ++ [])
+    → EndsAs end b (stream_of requests waiting) requests waiting [] → Serves before after a b w v end
+ends_whole before after a b w v waiting requests told end s texts ends = (
+  stream_of requests waiting,
+  flat_map told_text told,
+  requests,
+  told,
+  waiting,
+  [],
+  s.cut,
+  s.written,
+  record { cut = refl; each = s.each; texts = texts; ends = ends; origin = s.origin; lists = s.lists; answers = s.answers; top = s.top },
+)
+
+-- a text stands behind the answers, and this part of it was written
+ends_behind : (before after : Held) (a b w v u : Option (List ℕ)) (waiting text part : List ℕ) (requests : List Message) (told : List Told) (end : Ended) → Serving before after a b w v waiting requests told → IsWritten end (flat_map told_text told ++ part) (map told_text told ++ text ∷ [])
+    → EndsAs end b (stream_of requests waiting) requests waiting (text ∷ []) → Wrote v u part → Serves before after a b w u end
+ends_behind before after a b w v u waiting text part requests told end s texts ends put = (
+  stream_of requests waiting,
+  flat_map told_text told ++ part,
+  requests,
+  told,
+  waiting,
+  text ∷ [],
+  s.cut,
+  wrote_then w v u (flat_map told_text told) part s.written put,
+  record { cut = refl; each = s.each; texts = texts; ends = ends; origin = s.origin; lists = s.lists; answers = s.answers; top = s.top },
+)
+
+-- the source ended behind a request
+pub finished : (before after : Held) (a b w v : Option (List ℕ)) (waiting : List ℕ) (requests : List Message) (told : List Told) → Serving before after a b w v waiting requests told → length waiting ≡ 0 → IsAtEnd b → Serves before after a b w v ended.Finished
+finished before after a b w v waiting requests told s none end = ends_whole before after a b w v waiting requests told ended.Finished s (joined_none told) (refl, nil_from_length waiting none, end)
+
+-- the source ended inside a request
+pub cut_short : (before after : Held) (a b w v : Option (List ℕ)) (waiting : List ℕ) (requests : List Message) (told : List Told) (at : ℕ) → Serving before after a b w v waiting requests told → 0 < length waiting → IsUnfinished waiting → IsAtEnd b
+    → at ≡ length (flat_map spell requests) + length waiting → Serves before after a b w v (ended.CutShort at)
+cut_short before after a b w v waiting requests told at s some part end is =
+    ends_whole before after a b w v waiting requests told (ended.CutShort at) s (joined_none told) (refl, some, part, end, is ∙ sym (length-append (flat_map spell requests) waiting))
+
+pub source_failed : (before after : Held) (a b w v : Option (List ℕ)) (waiting : List ℕ) (requests : List Message) (told : List Told) → Serving before after a b w v waiting requests told → IsUnfinished waiting → Serves before after a b w v ended.SourceFault
+source_failed before after a b w v waiting requests told s part = ends_whole before after a b w v waiting requests told ended.SourceFault s (joined_none told) (refl, part)
+
+-- bytes may have left the source that do not wait
+pub no_memory : (before after : Held) (a b c w v : Option (List ℕ)) (waiting lost : List ℕ) (requests : List Message) (told : List Told) → Serving before after a b w v waiting requests told → Left b c lost → Serves before after a c w v ended.Memory
+no_memory before after a b c w v waiting lost requests told s left =
+    let more : Grown waiting (waiting ++ lost) b c = record { got = lost; more = refl; left = left } in
+    ends_whole before after a c w v (waiting ++ lost) requests told ended.Memory (took before after a b c w v waiting (waiting ++ lost) requests told s more) (joined_none told) refl
+
+pub spent : (before after : Held) (a b w v : Option (List ℕ)) (waiting : List ℕ) (requests : List Message) (told : List Told) → Serving before after a b w v waiting requests told → length requests ≡ 1000000 → Serves before after a b w v ended.Spent
+spent before after a b w v waiting requests told s all = ends_whole before after a b w v waiting requests told ended.Spent s (joined_none told) (refl, all)
+
+-- a piece was refused
+pub unreadable : (before after : Held) (a b w v u : Option (List ℕ)) (waiting text : List ℕ) (requests : List Message) (told : List Told) → Serving before after a b w v waiting requests told → IsRefusedPiece waiting → text ≡ answer_text not_built_answer → Wrote v u text → Serves before after a b w u ended.Unreadable
+unreadable before after a b w v u waiting text requests told s piece is put = ends_behind before after a b w v u waiting text text requests told ended.Unreadable s (joined_more told text) (piece, ap (λ zs. zs ∷ []) is) put
+
+-- the refusal of a piece could not be written
+pub refusal_failed : (before after : Held) (a b w v u : Option (List ℕ)) (waiting text part : List ℕ) (requests : List Message) (told : List Told) → Serving before after a b w v waiting requests told → IsRefusedPiece waiting → text ≡ answer_text not_built_answer → IsPrefix part text → Wrote v u part
+    → Serves before after a b w u ended.SinkFault
+refusal_failed before after a b w v u waiting text part requests told s piece is front put =
+    ends_behind before after a b w v u waiting text part requests told ended.SinkFault s (map told_text told, text, part, refl, front, ap (λ zs. zs ++ part) (sym (joined told))) (inr (piece, ap (λ zs. zs ∷ []) is)) put
+
+-- an answer could not be written
+pub answer_failed : (before after : Held) (a b w v u : Option (List ℕ)) (rest : List ℕ) (requests : List Message) (told : List Told) (m : Message) (t : Told) (part : List ℕ) → Replied before after a b rest (requests ++ m ∷ []) (told ++ t ∷ []) → Wrote w v (flat_map told_text told)
+    → IsPrefix part (told_text t) → Wrote v u part → Serves before after a b w u ended.SinkFault
+answer_failed before after a b w v u rest requests told m t part x written front put = (
+  stream_of (requests ++ m ∷ []) rest,
+  flat_map told_text told ++ part,
+  requests ++ m ∷ [],
+  told ++ t ∷ [],
+  rest,
+  [],
+  x.cut,
+  wrote_then w v u (flat_map told_text told) part written put,
+  record {
+    cut = refl;
+    each = x.each;
+    texts = (map told_text told, told_text t, part, append-nil (map told_text (told ++ t ∷ [])) ∙ map_push told_text told t, front, ap (λ zs. zs ++ part) (sym (joined told)));
+    ends = inl refl;
+    origin = x.origin;
+    lists = x.lists;
+    answers = x.answers;
+    top = x.top;
+  },
+)

@@ -1,0 +1,3 @@
+pub mod Connection
+pub mod Taking
+pub mod Sessions

@@ -1,0 +1,145 @@
+-- What a run of the program is: its words, its one line of text, and its status.
+use Rattle.std.specs.Prelude.{◌≤◌, ◌<◌, ◌+◌, ⊤, ◌≡◌, ◌⊎◌, ◌&&◌, ℕ, Bool, false, not, List, [], ◌∷◌, ◌++◌, length, codes, nat_eq, if◌then◌else◌, Option, Some, None, IsSomeAnd}
+use Rattle.std.specs.Str.{bytes_eq}
+use mathlib.Core.List.{IsPrefix}
+use Rattle.al_base.specs.Causes.{Left, Wrote, Rose}
+use Rattle.al_base.specs.Folders.{FileMap}
+use Rattle.al_eval.specs.declared.genesis.Genesis.{Genesis}
+use Rattle.al_eval.specs.Genesis.{IsGenesis}
+use Rattle.al_eval.specs.Start.{start}
+use Rattle.al_session.specs.Connection.{Serves}
+use Rattle.al_states.specs.Held.{Held, IsValid, KeepsMoney}
+use Rattle.al_states.specs.Opening.{IsRefusedGenesis}
+use Rattle.al_states.specs.declared.states.OpenFault.{OpenFault}
+use Rattle.al_states.specs.declared.states.OpenFault.TheVariants as faults
+use Rattle.al_session.specs.declared.link.Ended.{Ended}
+use Rattle.al_session.specs.declared.link.Ended.TheVariants as ended
+
+-- the first byte is a dash
+abbrev pub begins_with_dash : List ℕ → Bool
+begins_with_dash [] = false
+begins_with_dash (b ∷ bs) = nat_eq b 45
+
+-- the words `session FILE`, where no word begins with a dash
+abbrev pub session_file : List (List ℕ) → Option (List ℕ)
+session_file [] = None
+session_file (command ∷ []) = None
+session_file (command ∷ file ∷ []) = if bytes_eq command (codes "session") && not (begins_with_dash file) then Some file else None
+session_file (command ∷ file ∷ other ∷ more) = None
+
+-- the line of status 2; 10 ends a line
+abbrev pub usage_line : List ℕ
+usage_line = codes "usage: al_node [--db FILE] COMMAND" ++ 10 ∷ []
+
+-- the line of status 3 names the number, a digit: 48 is the byte of 0
+abbrev pub genesis_line : ℕ → List ℕ
+genesis_line n = codes "genesis: " ++ (48 + n) ∷ 10 ∷ []
+
+-- the line of status 4 names the file
+abbrev pub folder_line : List ℕ → List ℕ
+folder_line name = codes "folder: " ++ name ++ 10 ∷ []
+
+-- the status of a session by the end of its connection
+abbrev pub status_of : Ended → ℕ
+status_of ended.Finished = 0
+status_of (ended.CutShort at) = 5
+status_of ended.Unreadable = 5
+status_of ended.SourceFault = 5
+status_of ended.SinkFault = 5
+status_of ended.Spent = 5
+status_of ended.Memory = 7
+
+-- one line was written, or a front of it where the sink failed
+abbrev pub Says : List ℕ → Option (List ℕ) → Option (List ℕ) → ℕ → ℕ → Type 0
+Says line before now f g = Wrote before now line ⊎ ((part : List ℕ) × IsPrefix part line × Wrote before now part × Rose f g)
+
+-- the number that is shown is a digit
+abbrev pub IsDigit : OpenFault → Type 0
+IsDigit (faults.Genesis n) = n ≤ 9
+IsDigit faults.Memory = ⊤
+
+-- what a file that opens nothing is answered: one line and status 3, or nothing and status 7
+abbrev pub Refuses : OpenFault → Option (List ℕ) → Option (List ℕ) → ℕ → ℕ → ℕ → Type 0
+Refuses (faults.Genesis n) before now f g status = (status ≡ 3) × Says (genesis_line n) before now f g
+Refuses faults.Memory before now f g status = (status ≡ 7) × Wrote before now []
+
+-- no file is changed, where the files are told
+abbrev pub KeepsFiles : Option FileMap → Option FileMap → Type 0
+KeepsFiles None now = ⊤
+KeepsFiles (Some before) None = ⊥
+KeepsFiles (Some before) (Some now) = (name : List ℕ) → now name ≡ before name
+
+-- what a run sees of the outside: the bytes that are left in the source, those that went to the sink, the files, and the counts of faults
+pub record Outside : Type 0 where
+  pub left : Option (List ℕ)
+  pub written : Option (List ℕ)
+  pub files : Option FileMap
+  pub source_faults : ℕ
+  pub sink_faults : ℕ
+  pub folder_faults : ℕ
+
+-- nothing was taken, and one line was written
+pub record SaysAlone (line : List ℕ) (before after : Outside) : Type 0 where
+  pub taken : Left before.left after.left []
+  pub says : Says line before.written after.written before.sink_faults after.sink_faults
+
+-- nothing was taken or written
+pub record IsSilent (before after : Outside) : Type 0 where
+  pub taken : Left before.left after.left []
+  pub written : Wrote before.written after.written []
+
+-- the most bytes of a genesis file
+abbrev pub most_genesis : ℕ
+most_genesis = 5242880
+
+-- this is what the name holds, where the files are told
+abbrev pub Holds : Option FileMap → List ℕ → Option (List ℕ) → Type 0
+Holds None name file = ⊤
+Holds (Some files) name file = files name ≡ file
+
+-- the file is longer than the limit, where the files are told
+abbrev pub IsTooLong : Option FileMap → List ℕ → Type 0
+IsTooLong None name = ⊤
+IsTooLong (Some files) name = IsSomeAnd (files name) (λ bytes. most_genesis < length bytes)
+
+-- status 4: the folder failed, or the file is missing or too long
+pub record IsUnread (name : List ℕ) (before after : Outside) (n : ℕ) : Type 0 where
+  pub status : n ≡ 4
+  pub cause : Rose before.folder_faults after.folder_faults ⊎ Holds before.files name None ⊎ IsTooLong before.files name
+  pub line : SaysAlone (folder_line name) before after
+
+-- status 3: the file holds no genesis
+pub record IsNoGenesis (name : List ℕ) (before after : Outside) (n : ℕ) : Type 0 where
+  pub status : n ≡ 3
+  pub number : ℕ
+  pub cause : (file : List ℕ) × Holds before.files name (Some file) × IsRefusedGenesis file number
+  pub line : SaysAlone (genesis_line number) before after
+
+-- status 7: there was no memory before the connection was served
+pub record IsShort (before after : Outside) (n : ℕ) : Type 0 where
+  pub status : n ≡ 7
+  pub silent : IsSilent before after
+
+-- the connection was served from the state of the file's genesis, and the status says how it ended
+pub record IsServed (name : List ℕ) (before after : Outside) (n : ℕ) : Type 0 where
+  pub file : List ℕ
+  pub holds : Holds before.files name (Some file)
+  pub genesis : Genesis
+  pub decodes : IsGenesis file genesis
+  pub held : Held
+  pub end : Ended
+  pub serves : Serves (record { origin = start genesis; blocks = [] }) held before.left after.left before.written after.written end
+  pub valid : IsValid held.origin held.blocks
+  pub money : KeepsMoney held
+  pub status : n ≡ status_of end
+  pub source_fault : end ≡ ended.SourceFault → Rose before.source_faults after.source_faults
+  pub sink_fault : end ≡ ended.SinkFault → Rose before.sink_faults after.sink_faults
+
+-- a run of these words: status 2 exactly where they name no file of a session
+abbrev pub RunsOf : Option (List ℕ) → Outside → Outside → ℕ → Type 0
+RunsOf None before after status = (status ≡ 2) × SaysAlone usage_line before after
+RunsOf (Some name) before after status = IsUnread name before after status ⊎ IsNoGenesis name before after status ⊎ IsShort before after status ⊎ IsServed name before after status
+
+-- what a run of the program is
+abbrev pub Runs : List (List ℕ) → Outside → Outside → ℕ → Type 0
+Runs words before after status = RunsOf (session_file words) before after status

@@ -1,0 +1,122 @@
+//! The command.
+ghost use Rattle.std.specs.Prelude.{◌≡◌, ◌≤◌, IfOk};
+ghost use Rattle.al_session.specs.Sessions.{IsDigit, KeepsFiles, Refuses, Runs, Says, folder_line, genesis_line, status_of};
+
+use crate::link::{Caller, Ended, serve_link};
+use crate::words::Words;
+use al_base::{Folder, FolderRefusal, Sink, Source};
+use al_states::{OpenFault, States};
+use std::alloc::{AllocError, Global};
+
+/// The most bytes of a genesis file.
+const MOST_GENESIS: usize = 5_242_880;
+
+const USAGE: &[u8] = b"usage: al_node [--db FILE] COMMAND\n";
+
+/// The status that the program ends with.
+#[derive(Clone, Copy, Debug, PartialEq, Eq)]
+pub struct Status(pub u8);
+
+// Writes the one line of a status. A sink that fails changes no status.
+fn say<T: Sink>(sink: &mut T, line: &[u8])
+    ensures says { Says line.now (T.written sink.old) (T.written sink.new) (T.faults sink.old) (T.faults sink.new) }
+    ensures later { T.faults sink.old ≤ T.faults sink.new }
+{
+    match sink.put(line) {
+        Ok(()) => {}
+        Err(_) => {}
+    }
+}
+
+// The line of status 3.
+fn genesis_line(number: u8) -> [u8; 11]
+    requires { number ≤ 9 }
+    ensures { result ≡ genesis_line number }
+{
+    let mut line = *b"genesis: 0\n";
+    line[9] += number;
+    line
+}
+
+// Answers a file that opens nothing.
+fn refuse<T: Sink>(sink: &mut T, fault: OpenFault) -> Status
+    requires { IsDigit fault }
+    ensures refuses { Refuses fault (T.written sink.old) (T.written sink.new) (T.faults sink.old) (T.faults sink.new) result.0 }
+    ensures later { T.faults sink.old ≤ T.faults sink.new }
+{
+    match fault {
+        OpenFault::Genesis { number } => {
+            say(sink, &genesis_line(number));
+            Status(3)
+        }
+        OpenFault::Memory => Status(7),
+    }
+}
+
+fn folder_text(alloc: Global, name: &str) -> Result<Vec<u8>, AllocError>
+    ensures { IfOk result (λ text. text.items ≡ folder_line name.now) }
+{
+    let mut text = b"folder: ".to_vec(alloc)?;
+    text.extend_from_slice(name.as_bytes())?;
+    text.push(b'\n')?;
+    Ok(text)
+}
+
+fn status_of(ended: Ended) -> Status
+    ensures { result.0 ≡ status_of ended }
+{
+    match ended {
+        Ended::Finished => Status(0),
+        Ended::CutShort { at: _ } => Status(5),
+        Ended::Unreadable => Status(5),
+        Ended::SourceFault => Status(5),
+        Ended::SinkFault => Status(5),
+        Ended::Spent => Status(5),
+        Ended::Memory => Status(7),
+    }
+}
+
+/// Runs the command that the words say: `session FILE` reads the genesis file, and serves the
+/// source and the sink.
+///
+/// The status is 0 where the connection finished; 2 where the words are no command; 3 where the
+/// file holds no genesis that is taken; 4 where it could not be read; 5 where the connection ended
+/// otherwise; 7 where there was no memory. With 2, 3 and 4 one line of text is written, and
+/// nothing else.
+pub fn run<S: Source, T: Sink, F: Folder>(
+    alloc: Global,
+    words: &Words,
+    source: &mut S,
+    sink: &mut T,
+    folder: &mut F,
+) -> Status
+    ensures runs { Runs words.now (record { left = S.left source.old; written = T.written sink.old; files = F.files folder.old; source_faults = S.faults source.old; sink_faults = T.faults sink.old; folder_faults = F.faults folder.old }) (record { left = S.left source.new; written = T.written sink.new; files = F.files folder.new; source_faults = S.faults source.new; sink_faults = T.faults sink.new; folder_faults = F.faults folder.new }) result.0 }
+    ensures files { KeepsFiles (F.files folder.old) (F.files folder.new) }
+    ensures later { (S.faults source.old ≤ S.faults source.new) × (T.faults sink.old ≤ T.faults sink.new) × (F.faults folder.old ≤ F.faults folder.new) }
+{
+    let Some(name) = words.session_file() else {
+        say(sink, USAGE);
+        return Status(2);
+    };
+    let bytes = match folder.read(alloc, name, MOST_GENESIS) {
+        Ok(Some(bytes)) => bytes,
+        Err(FolderRefusal::Memory) => return Status(7),
+        _ => {
+            let Ok(line) = folder_text(alloc, name) else {
+                return Status(7);
+            };
+            say(sink, &line);
+            return Status(4);
+        }
+    };
+    match States::open(alloc, bytes.as_slice()) {
+        Ok(mut states) => status_of(serve_link(
+            alloc,
+            &mut states,
+            &mut Caller::new(),
+            source,
+            sink,
+        )),
+        Err(fault) => refuse(sink, fault),
+    }
+}

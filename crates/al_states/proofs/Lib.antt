@@ -1,0 +1,5 @@
+pub mod KeepLemmas
+pub mod BuiltLemmas
+pub mod OpenLemmas
+pub mod ToldLemmas
+pub mod SoundLemmas

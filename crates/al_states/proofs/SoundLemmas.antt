@@ -1,0 +1,87 @@
+-- The states that are kept are sound, and no money is made or lost.
+use Rattle.std.proofs.Common.{◌≡◌, ◌≤◌, ◌^◌, ℕ, zero, suc, List, [], ◌∷◌, take, drop, codes, ap, ◌∙◌, subst, sym, refl, Bool, true, false, leb-true, nat_le, Option, None, Some, Result, Ok, Err}
+use Rattle.al_msgpack.specs.declared.val.Entry.{Entry}
+use Rattle.al_msgpack.specs.declared.val.Val.TheViews as views
+use Rattle.al_record.specs.declared.fault.Fault.{Fault}
+use Rattle.al_record.specs.declared.fault.Fault.TheVariants.{Range}
+use Rattle.al_record.specs.Columns.{Rule, range_fault, rules_of, unless_range, value_at, number_of, map_of, member_open, IsRecord}
+use Rattle.al_record.proofs.Engine.{first_none}
+use Rattle.al_record.proofs.Laws.{record_shows}
+use Rattle.al_block.specs.declared.block.Block.{Block}
+use Rattle.al_block.specs.declared.header.Header.{Header}
+use Rattle.al_block.specs.Block.{IsBlock, block, block_fields}
+use Rattle.al_block.specs.Header.{header, header_fields}
+use Rattle.al_moves.specs.Moves.{then_do}
+use Rattle.al_eval.specs.Steps.{Refusal}
+use Rattle.al_eval.specs.State.{State, step, replay}
+use Rattle.al_eval.specs.Sound.{Sound, IsSoundBefore}
+use Rattle.al_eval.proofs.Sounds.{step_sound, step_keeps}
+use Rattle.al_states.specs.declared.states.Accepted.{Accepted}
+use Rattle.al_states.specs.declared.states.States.{States}
+use Rattle.al_states.specs.Held.{KeepsMoney, money_in}
+use Rattle.al_states.specs.Keeping.{Tree, Follows, IsStates, held, last_rows}
+
+follows_sound : (o last : State) (more : List Accepted) → Sound o → Follows o more last → Sound last
+follows_sound o last [] h e = subst Sound e h
+follows_sound o last (a ∷ more) h (n, stepped, rows, rest) = follows_sound n last more (step_sound o n a.block h stepped) rest
+
+-- what the next step begins with
+pub before_sound : (s : States) (k : IsStates s) (rows : Tree) → rows ≡ last_rows s.rows s.accepted.items → IsSoundBefore s.before rows k.past
+before_sound s k rows led =
+    let x : IsSoundBefore s.before (last_rows s.rows s.accepted.items) k.past = record {
+      sound = follows_sound (held s).origin _ s.accepted.items k.sound k.follows;
+      totals = k.totals_are;
+    } in
+    subst (λ (t : Tree). IsSoundBefore s.before t k.past) (sym led) x
+
+then_replayed : (due : Result State Refusal) (bs : List Block) (t : State) → then_do due (λ s. replay s bs) ≡ Ok t → (s : State) × (due ≡ Ok s) × (replay s bs ≡ Ok t)
+then_replayed (Ok s) bs t e = (s, refl, e)
+then_replayed (Err r) bs t e = absurd (let x : ◌≡◌ {A = Result State Refusal} (Err r) (Ok t) = e in cc)
+
+replay_keeps : (s t : State) (bs : List Block) → Sound s → replay s bs ≡ Ok t → money_in t ≡ money_in s
+replay_keeps s t [] h e = let same : s ≡ t = cc in ap money_in (sym same)
+replay_keeps s t (b ∷ bs) h e =
+    let n = then_replayed (step s b) bs t e in
+    replay_keeps n.0 t bs (step_sound s n.0 b h n.1) n.2 ∙ step_keeps s n.0 b h n.1
+
+-- no block that is held makes or loses money
+pub states_money : (s : States) → IsStates s → KeepsMoney (held s)
+states_money s k = λ n t e. replay_keeps (held s).origin t (take n (held s).blocks) k.sound e
+
+-- ---- the round of a block that is spelled
+
+in_range : (b : Bool) (name : List ℕ) → unless_range b name ≡ None → b ≡ true
+in_range true name e = refl
+in_range false name e = absurd (let x : ◌≡◌ {A = Option Fault} (Some (Range name)) None = e in cc)
+
+-- the fields behind the first n are in their ranges too
+later : (n : ℕ) (rs : List Rule) (es : List Entry) → range_fault rs es ≡ None → range_fault (drop n rs) es ≡ None
+later zero rs es h = h
+later (suc n) [] es h = h
+later (suc n) (r ∷ rs) es h = later n rs es (first_none (r.fault (value_at r.name es)) (range_fault rs es) h).1
+
+header_within : (h : Header) (es : List Entry) → IsRecord header h es → h.round ≤ 2 ^ 62
+header_within h es is =
+    let shown = record_shows header_fields h es refl is in
+    let ranged = (first_none _ (range_fault (rules_of header_fields) es) is.sound).1 in
+    let test = nat_le (number_of (value_at (codes "rnd") es)) (2 ^ 62) in
+    let ok = (first_none (unless_range test (codes "rnd")) (range_fault (drop 8 (rules_of header_fields)) es) (later 7 (rules_of header_fields) es ranged)).0 in
+    let few : number_of (value_at (codes "rnd") es) ≤ 2 ^ 62 = leb-true (number_of (value_at (codes "rnd") es)) (2 ^ 62) (in_range test (codes "rnd") ok) in
+    subst (λ n. n ≤ 2 ^ 62) (sym shown.1.1.1.1.1.1.1.0) few
+
+block_is : (input : List ℕ) (b : Block) → IsBlock input b → IsRecord block b (block.write b)
+block_is input b is = record {
+  fields = refl;
+  sound = ap (member_open block.fault) (sym (views.outs-Map (block.write b))) ∙ (first_none _ _ is.sound).0;
+}
+
+-- a header of a block is a record itself
+header_of : (b : Block) (es : List Entry) → IsRecord block b es → IsRecord header b.header (header.write b.header)
+header_of b es is = record {
+  fields = refl;
+  sound = ap header.fault (record_shows block_fields b es refl is).0 ∙ (first_none (header.fault (map_of (value_at (codes "b") es))) (range_fault (drop 1 (rules_of block_fields)) es) (first_none _ (range_fault (rules_of block_fields) es) is.sound).1).0;
+}
+
+-- it is at most 2^62
+pub round_within : (input : List ℕ) (b : Block) → IsBlock input b → b.header.round ≤ 2 ^ 62
+round_within input b is = header_within b.header (header.write b.header) (header_of b (block.write b) (block_is input b is))

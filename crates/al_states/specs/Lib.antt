@@ -1,0 +1,5 @@
+pub mod Built
+pub mod Held
+pub mod Replies
+pub mod Keeping
+pub mod Opening

@@ -1,0 +1,29 @@
+//! The blocks that are built so far.
+ghost use Rattle.std.specs.Prelude.{◌≡◌};
+ghost use Rattle.std.specs.List.{list_all};
+ghost use Rattle.al_states.specs.Built.{is_built, is_built_body};
+
+use al_block::Block;
+use al_txn::{Body, Item};
+
+fn is_built_body(body: &Body) -> bool
+    ensures { result ≡ is_built_body body.now }
+{
+    match body {
+        Body::Pay(_) => true,
+        _ => false,
+    }
+}
+
+fn are_built(items: &[Item]) -> bool
+    ensures { result ≡ list_all (λ i. is_built_body i.txn.body) items.now }
+{
+    items.iter().all(|i| is_built_body(&i.txn.body))
+}
+
+/// Whether each item of a block is a payment, and no account is listed as expired.
+pub fn is_built(block: &Block) -> bool
+    ensures { result ≡ is_built block.now }
+{
+    block.header.expired.len() == 0 && are_built(block.items.as_slice())
+}
