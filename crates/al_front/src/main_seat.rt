@@ -1,6 +1,7 @@
 //! The seat whose list is the main one.
 ghost use Rattle.std.specs.Prelude.{◌≡◌, ◌+◌, ◌<◌, ◌^◌, ◌++◌, ◌∷◌, [], max, length};
 ghost use mathlib.Core.List.{IsPrefix};
+ghost use Rattle.al_front.specs.Rule.{FloorFits};
 
 use crate::front::Front;
 use crate::name::Name;
@@ -42,9 +43,17 @@ impl<N: Name> Main<N> {
         self.len += 1;
     }
 
-    /// The floor that the seat knows, a round.
+    /// The length of the list, in rounds: the opening floor plus its entries.
+    pub fn seen_len(&self) -> u64
+        ensures { result ≡ N.base + length self.now.list }
+    {
+        self.len
+    }
+
+    /// The known floor, a round. It is the opening floor, or at least 4 below the length.
     pub fn floor(&self) -> u64
-        ensures { result ≡ self.now.floor }
+        ensures floor { result ≡ self.now.floor }
+        ensures fits { FloorFits N.base self.now.floor (N.base + length self.now.list) }
     {
         self.floor
     }

@@ -1,7 +1,7 @@
 //! The seat whose floor is the shared one.
 ghost use Rattle.std.specs.Prelude.{◌≡◌, ◌+◌, ◌≤◌, max, length};
 ghost use mathlib.Core.List.{IsPrefix};
-ghost use Rattle.al_front.specs.Rule.{longer};
+ghost use Rattle.al_front.specs.Rule.{FloorFits, longer};
 
 use crate::front::Front;
 use crate::name::Name;
@@ -42,6 +42,21 @@ impl<N: Name> StoreSeat<N> {
     {
         raise_as(front, self.floor, floor, &mut self.seat);
         self.floor = self.floor.max(floor);
+    }
+
+    /// The length of the known list, in rounds: the opening floor plus its entries.
+    pub fn seen_len(&self) -> u64
+        ensures { result ≡ N.base + length self.now.list }
+    {
+        self.len
+    }
+
+    /// The floor, a round. It is the opening floor, or at least 4 below the known length.
+    pub fn floor(&self) -> u64
+        ensures floor { result ≡ self.now.floor }
+        ensures fits { FloorFits N.base self.now.floor (N.base + length self.now.list) }
+    {
+        self.floor
     }
 
     /// What the seat knows, to be met by another.
