@@ -4,7 +4,7 @@ ghost use Rattle.al_record.specs.Canonical.{are_canonical};
 
 use crate::Block;
 use crate::header_record::{header_entries, read_header};
-use al_msgpack::{Entries, Entry};
+use al_msgpack::{Entries, Entry, Val, write};
 use al_record::{
     Column, ReadError, Record, Shape, check_fields, list, list_of_all, map, put_list, put_map,
     read_all,
@@ -32,5 +32,10 @@ impl Record for Block {
         let items = list_of_all(alloc, self.items.as_slice())?;
         put_list(alloc, &mut out, "t", items)?;
         Ok(out)
+    }
+
+    fn write(&self, out: &mut Vec<u8>) -> Result<(), AllocError> {
+        let alloc = *out.allocator();
+        write(&Val::Map(self.entries(alloc)?), out)
     }
 }

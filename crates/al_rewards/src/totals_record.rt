@@ -60,6 +60,11 @@ impl Record for Totals {
             ],
         )
     }
+
+    fn write(&self, out: &mut Vec<u8>) -> Result<(), AllocError> {
+        let alloc = *out.allocator();
+        write(&Val::Map(self.entries(alloc)?), out)
+    }
 }
 
 /// Appends the spelling of the totals' record, which has the fields `fm` and `fu` (money and units

@@ -9,7 +9,7 @@ ghost use Rattle.al_txn.specs.Effect.{effect, name_fault, put_box, remove_box, w
 use crate::Effect;
 use crate::inner::{inner_entries, read_inner};
 use al_base::{Address, BoxName, Bytes};
-use al_msgpack::{Entries, Entry};
+use al_msgpack::{Entries, Entry, Val, write};
 use al_record::{
     Column, Content, HASH, ReadError, Record, Shape, array, bytes, bytes_of, check, check_fields,
     check_ranges, find, listed, map, number, number_kind, put_map, range,
@@ -246,6 +246,11 @@ impl Record for Effect {
                 Ok(out)
             }
         }
+    }
+
+    fn write(&self, out: &mut Vec<u8>) -> Result<(), AllocError> {
+        let alloc = *out.allocator();
+        write(&Val::Map(self.entries(alloc)?), out)
     }
 }
 

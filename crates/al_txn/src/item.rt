@@ -7,7 +7,7 @@ ghost use Rattle.al_txn.specs.Item.{ReadsItem, most_effects};
 use crate::record::{read_txn, txn_entries};
 use crate::{Effect, Item};
 use al_base::Bytes;
-use al_msgpack::{Entries, Entry, Val};
+use al_msgpack::{Entries, Entry, Val, write};
 use al_record::{
     Column, Fault, ReadError, Record, Shape, check_fields, field, find, list, list_of_all, map,
     put_list, put_map, range, read_all, read_member,
@@ -65,6 +65,11 @@ impl Record for Item {
         put_list(alloc, &mut out, "fx", effects)?;
         put_map(alloc, &mut out, "txn", txn_entries(alloc, &self.txn)?)?;
         Ok(out)
+    }
+
+    fn write(&self, out: &mut Vec<u8>) -> Result<(), AllocError> {
+        let alloc = *out.allocator();
+        write(&Val::Map(self.entries(alloc)?), out)
     }
 }
 
