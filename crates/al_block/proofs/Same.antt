@@ -7,7 +7,7 @@ use Rattle.al_record.proofs.Laws.{record_shows}
 use Rattle.al_record.proofs.Same.{Determined, same_addresses}
 use Rattle.al_txn.specs.Item.{item}
 use Rattle.al_txn.proofs.Members.{members_determined}
-use Rattle.al_txn.proofs.Same.{fields_agree}
+use Rattle.al_bodies.proofs.Same.{fields_agree}
 use Rattle.al_txn.proofs.SameItem.{item_determined}
 use Rattle.al_block.specs.declared.header.Header.{Header}
 use Rattle.al_block.specs.declared.block.Block.{Block}

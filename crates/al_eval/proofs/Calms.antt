@@ -7,8 +7,8 @@ use Rattle.al_base.specs.declared.account.Special.{Special}
 use Rattle.al_base.specs.declared.address.Address.{Address}
 use Rattle.al_block.specs.Hashes.{group_size, run}
 use Rattle.al_rows.specs.Rows.{RowMap}
-use Rattle.al_txn.specs.declared.body.Body.{Body}
-use Rattle.al_txn.specs.declared.body.Body.TheVariants as body
+use Rattle.al_bodies.specs.declared.body.Body.{Body}
+use Rattle.al_bodies.specs.declared.body.Body.TheVariants as body
 use Rattle.al_txn.specs.declared.chain.Chain.{Chain}
 use Rattle.al_txn.specs.declared.txn.Txn.{Txn}
 use Rattle.al_txn.specs.declared.txn.Item.{Item}

@@ -21,7 +21,7 @@ use Rattle.al_record.proofs.Laws.{record_shows}
 use Rattle.al_record.proofs.Same.{Determined}
 use Rattle.al_txn.specs.declared.chain.Chain.{Chain}
 use Rattle.al_txn.proofs.Members.{members_determined, map_back}
-use Rattle.al_txn.proofs.Same.{fields_agree}
+use Rattle.al_bodies.proofs.Same.{fields_agree}
 use Rattle.al_eval.specs.declared.genesis_fields.FirstRow.{FirstRow}
 use Rattle.al_eval.specs.declared.genesis_fields.FirstAccount.{FirstAccount}
 use Rattle.al_eval.specs.declared.genesis_fields.GenesisRecord.{GenesisRecord}

@@ -17,9 +17,9 @@ use Rattle.al_rows.specs.Rows.{RowMap, is_zero, is_zero_account, unless_zero, ac
 use Rattle.al_rows.proofs.Keys.{keys_total, exact_keys}
 use Rattle.al_rows.proofs.Maps.{total-set_at}
 use Rattle.al_rows.proofs.Sames.{account_true}
-use Rattle.al_txn.specs.declared.body.Body.{Body}
-use Rattle.al_txn.specs.declared.body.Body.TheVariants as body
-use Rattle.al_txn.specs.declared.body.Pay.{Pay}
+use Rattle.al_bodies.specs.declared.body.Body.{Body}
+use Rattle.al_bodies.specs.declared.body.Body.TheVariants as body
+use Rattle.al_bodies.specs.declared.body.Pay.{Pay}
 use Rattle.al_txn.specs.declared.chain.Chain.{Chain}
 use Rattle.al_txn.specs.declared.txn.Txn.{Txn}
 use Rattle.al_moves.specs.declared.rule.Rule.{Rule}

@@ -16,8 +16,8 @@ use Rattle.al_rows.specs.Finite.{map_entries, overlaid}
 use Rattle.al_rows.specs.Rows.{RowMap, bare, row_eq}
 use Rattle.al_rewards.specs.declared.totals.Totals.{Totals}
 use Rattle.al_rewards.specs.Totals.{all_units}
-use Rattle.al_txn.specs.declared.body.Body.{Body}
-use Rattle.al_txn.specs.declared.body.Body.TheVariants as body
+use Rattle.al_bodies.specs.declared.body.Body.{Body}
+use Rattle.al_bodies.specs.declared.body.Body.TheVariants as body
 use Rattle.al_txn.specs.declared.chain.Chain.{Chain}
 use Rattle.al_txn.specs.declared.txn.Txn.{Txn}
 use Rattle.al_moves.specs.Moves.{then_do, AreChanges}

@@ -18,8 +18,8 @@ use Rattle.al_rewards.specs.Next.{least_pool, next_rewards}
 use Rattle.al_rewards.specs.Totals.{all_units, capped, raised}
 use Rattle.al_moves.specs.Money.{IsWithin, counts}
 use Rattle.al_rows.specs.Rows.{RowMap, same_bytes, account, set_account}
-use Rattle.al_txn.specs.declared.body.Body.{Body}
-use Rattle.al_txn.specs.declared.body.Body.TheVariants as body
+use Rattle.al_bodies.specs.declared.body.Body.{Body}
+use Rattle.al_bodies.specs.declared.body.Body.TheVariants as body
 use Rattle.al_txn.specs.declared.chain.Chain.{Chain}
 use Rattle.al_txn.specs.declared.txn.Txn.{Txn}
 use Rattle.al_txn.specs.declared.txn.Item.{Item}

@@ -20,7 +20,7 @@ use Rattle.al_rows.specs.declared.row.Row.{Row}
 use Rattle.al_rows.specs.declared.row.Row.TheVariants as row
 use Rattle.al_rows.specs.Finite.{total}
 use Rattle.al_rows.specs.Rows.{RowMap, same_status}
-use Rattle.al_txn.specs.declared.body.Pay.{Pay}
+use Rattle.al_bodies.specs.declared.body.Pay.{Pay}
 use Rattle.al_moves.specs.declared.rule.Rule.{Rule}
 use Rattle.al_moves.specs.Moves.{moved, paid, rekeyed, checked, earned, share_of}
 use Rattle.al_moves.specs.Works.{now_at}

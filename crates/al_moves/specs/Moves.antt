@@ -19,7 +19,7 @@ use Rattle.al_rows.specs.declared.account.AccountRow.{AccountRow}
 use Rattle.al_rows.specs.declared.row.Row.{Row}
 use Rattle.al_rows.specs.Finite.{set_at, or_below, first_some}
 use Rattle.al_rows.specs.Rows.{RowMap, same_bytes, no_address, min_balance, account, account_in, set_account, same_row}
-use Rattle.al_txn.specs.declared.body.Pay.{Pay}
+use Rattle.al_bodies.specs.declared.body.Pay.{Pay}
 use Rattle.al_moves.specs.declared.rule.Rule.{Rule}
 use Rattle.al_rows.specs.declared.change.Change.{Change}
 

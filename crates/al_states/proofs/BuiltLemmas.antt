@@ -3,8 +3,8 @@ use Rattle.std.proofs.Common.{◌≡◌, true, get_or, All}
 use Rattle.std.proofs.lemmas.Bool.{and_parts}
 use Rattle.std.proofs.lemmas.List.Sums.{AllPass-from_list_all}
 use Rattle.al_txn.specs.declared.txn.Item.{Item}
-use Rattle.al_txn.specs.declared.body.Body.{Body}
-use Rattle.al_txn.specs.declared.body.Body.TheVariants as bodies
+use Rattle.al_bodies.specs.declared.body.Body.{Body}
+use Rattle.al_bodies.specs.declared.body.Body.TheVariants as bodies
 use Rattle.al_block.specs.declared.block.Block.{Block}
 use Rattle.al_eval.specs.State.{IsPay}
 use Rattle.al_states.specs.Built.{is_built, is_built_body, is_none}

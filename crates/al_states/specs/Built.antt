@@ -1,8 +1,8 @@
 -- The blocks that are built so far.
 use Rattle.std.specs.Prelude.{Bool, true, false, ◌&&◌, List, [], ◌∷◌}
 use Rattle.std.specs.List.{list_all}
-use Rattle.al_txn.specs.declared.body.Body.{Body}
-use Rattle.al_txn.specs.declared.body.Body.TheVariants as bodies
+use Rattle.al_bodies.specs.declared.body.Body.{Body}
+use Rattle.al_bodies.specs.declared.body.Body.TheVariants as bodies
 use Rattle.al_block.specs.declared.block.Block.{Block}
 
 -- a payment

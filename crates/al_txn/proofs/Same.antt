@@ -13,25 +13,22 @@ use Rattle.al_record.proofs.Tables.{all_agree}
 use Rattle.al_record.proofs.Same.{Determined}
 use Rattle.al_msgpack.specs.Rising.{rises}
 use Rattle.al_txn.specs.declared.txn.Txn.{Txn}
-use Rattle.al_txn.specs.declared.body.Pay.{Pay}
-use Rattle.al_txn.specs.declared.body.KeyReg.{KeyReg}
-use Rattle.al_txn.specs.declared.body.Config.{Config}
-use Rattle.al_txn.specs.declared.body.AssetMove.{AssetMove}
-use Rattle.al_txn.specs.declared.body.Freeze.{Freeze}
-use Rattle.al_txn.specs.declared.body.AppCall.{AppCall}
-use Rattle.al_txn.specs.declared.body.Body.{Body}
-use Rattle.al_txn.specs.declared.body.Body.TheVariants as bodies
-use Rattle.al_txn.specs.Txn.{txn, txn_fault, written, pay, axfer, params_fields, asset_params, pay_txn, keyreg_txn, acfg_txn, axfer_txn, afrz_txn, appl_txn}
-use Rattle.al_txn.specs.Kept.{kept, others, merged, are_kept}
-use Rattle.al_txn.proofs.Apart.{others_at, others_merged, kept_merged, entries_others}
-use Rattle.al_txn.proofs.Written.{all_put, text_named, words_apart}
+use Rattle.al_bodies.specs.declared.body.Pay.{Pay}
+use Rattle.al_bodies.specs.declared.body.KeyReg.{KeyReg}
+use Rattle.al_bodies.specs.declared.body.Config.{Config}
+use Rattle.al_bodies.specs.declared.body.AssetMove.{AssetMove}
+use Rattle.al_bodies.specs.declared.body.Freeze.{Freeze}
+use Rattle.al_bodies.specs.declared.body.AppCall.{AppCall}
+use Rattle.al_bodies.specs.declared.body.Body.{Body}
+use Rattle.al_bodies.specs.declared.body.Body.TheVariants as bodies
+use Rattle.al_bodies.specs.Bodies.{asset_params}
+use Rattle.al_txn.specs.Txn.{txn, txn_fault, written, pay_txn, keyreg_txn, acfg_txn, axfer_txn, afrz_txn, appl_txn}
+use Rattle.al_bodies.specs.Kept.{kept, others, merged, are_kept}
+use Rattle.al_bodies.proofs.Apart.{others_at, others_merged, kept_merged, entries_others}
+use Rattle.al_bodies.proofs.Same.{fields_agree, pay_whole, move_whole, whole_keyreg, whole_freeze, config_same, call_same}
+use Rattle.al_bodies.proofs.Written.{all_put, text_named, words_apart}
 
--- values with one record agree on the fields of a table
-pub fields_agree : {X : Type 0} (fs : List (FieldOf X)) (x y : X) (es : List Entry) → rises (names (heads (rules_of fs))) ≡ true → IsRecord (table fs) x es → IsRecord (table fs) y es → AllAgree fs x y
-fields_agree fs x y es r h k = all_agree fs x y es (record_shows fs x es r h) (record_shows fs y es r k)
-
--- each value by its parts
-
+-- a transaction by its parts
 abbrev whole : Txn → Txn
 whole t = record {
   sender = record { 0 = t.sender.0 };
@@ -46,67 +43,6 @@ whole t = record {
   group = t.group;
   body = t.body;
 }
-
-abbrev pub pay_whole : Pay → Pay
-pay_whole p = record {
-  receiver = record { 0 = p.receiver.0 };
-  amount = p.amount;
-  close = record { 0 = p.close.0 };
-}
-
-abbrev pub move_whole : AssetMove → AssetMove
-move_whole m = record {
-  asset = m.asset;
-  amount = m.amount;
-  source = record { 0 = m.source.0 };
-  receiver = record { 0 = m.receiver.0 };
-  close = record { 0 = m.close.0 };
-}
-
-abbrev whole_keyreg : KeyReg → KeyReg
-whole_keyreg k = record {
-  vote = k.vote;
-  selection = k.selection;
-  sprf = k.sprf;
-  first = k.first;
-  last = k.last;
-  dilution = k.dilution;
-  nonpart = k.nonpart;
-}
-
-abbrev whole_freeze : Freeze → Freeze
-whole_freeze f = record {
-  account = record { 0 = f.account.0 };
-  asset = f.asset;
-  frozen = f.frozen;
-}
-
-abbrev whole_params : AssetParams → AssetParams
-whole_params p = record {
-  total = p.total;
-  decimals = p.decimals;
-  default_frozen = p.default_frozen;
-  unit = p.unit;
-  name = p.name;
-  url = p.url;
-  meta = p.meta;
-  manager = record { 0 = p.manager.0 };
-  reserve = record { 0 = p.reserve.0 };
-  freeze = record { 0 = p.freeze.0 };
-  clawback = record { 0 = p.clawback.0 };
-}
-
-pub params_determined : Determined asset_params
-params_determined x y es h k =
-    let a = fields_agree params_fields x y es refl h k in
-    let same : whole_params x ≡ whole_params y = cc in
-    same
-
-pub pay_same : (p q : Pay) → AllAgree pay p q → p ≡ q
-pay_same p q a = let same : pay_whole p ≡ pay_whole q = cc in same
-
-pub move_same : (m n : AssetMove) → AllAgree axfer m n → m ≡ n
-move_same m n a = let same : move_whole m ≡ move_whole n = cc in same
 
 -- the word that names a body's type
 abbrev word : Body → List ℕ
@@ -170,9 +106,6 @@ of_call t a es e r =
 kept_of : (t : Txn) (a : AppCall) (es : List Entry) → t.body ≡ bodies.App a → IsRecord txn t es → kept es ≡ a.rest
 kept_of t a es e r = ap kept (r.fields ∙ ap (written t) e) ∙ call_kept t a
 
-config_same : (c d : Config) (es : List Entry) → c.asset ≡ d.asset → IsRecord asset_params c.params es → IsRecord asset_params d.params es → c ≡ d
-config_same c d es a p q = ap₂ (λ (n : ℕ) (x : AssetParams). record { asset = n; params = x }) a (params_determined c.params d.params es p q)
-
 pay_pair : (t u : Txn) (x y : Pay) → t.body ≡ bodies.Pay x → u.body ≡ bodies.Pay y → AllAgree pay_txn (t, x) (u, y) → t ≡ u
 pay_pair t u x y b d a =
     let part : pay_whole x ≡ pay_whole y = cc in
@@ -212,21 +145,6 @@ config_pair t u x y ps b d a p q =
     let body : t.body ≡ u.body = b ∙ ap (λ (z : Config). bodies.Config z) same ∙ sym d in
     let all : whole t ≡ whole u = cc in
     all
-
-abbrev call : (app : ℕ) (rest : List Entry) → are_kept rest ≡ true → AppCall
-call app rest k = record { app = app; rest = rest; kept = k }
-
-one_proof : (rest : List Entry) → IsProp (are_kept rest ≡ true)
-one_proof rest = hlevel props
-
-proofs : (app : ℕ) (rest : List Entry) (k l : are_kept rest ≡ true) → call app rest k ≡ call app rest l
-proofs app rest k l = let e : k ≡ l = one_proof rest k l in cc
-
-call_same : (x y : AppCall) → x.app ≡ y.app → x.rest ≡ y.rest → x ≡ y
-call_same x y p q =
-    subst (λ (n : ℕ). (k : are_kept y.rest ≡ true) → x ≡ call n y.rest k) p
-    (subst (λ (es : List Entry). (k : are_kept es ≡ true) → x ≡ call x.app es k) q
-    (λ k. proofs x.app x.rest x.kept k)) y.kept
 
 call_pair : (t u : Txn) (x y : AppCall) → t.body ≡ bodies.App x → u.body ≡ bodies.App y → AllAgree appl_txn (t, x) (u, y) → x.rest ≡ y.rest → t ≡ u
 call_pair t u x y b d a r =

@@ -7,12 +7,12 @@ use Rattle.std.specs.declared.result.Result.TheVariants.{Ok, Err}
 use Rattle.std.specs.Option.{option_or}
 use Rattle.std.specs.Cmp.Lexicographic.{pointwise}
 use Rattle.al_base.specs.declared.address.Address.{Address}
-use Rattle.al_txn.specs.declared.body.KeyReg.{KeyReg}
-use Rattle.al_txn.specs.declared.body.Config.{Config}
-use Rattle.al_txn.specs.declared.body.AssetMove.{AssetMove}
-use Rattle.al_txn.specs.declared.body.Freeze.{Freeze}
-use Rattle.al_txn.specs.declared.body.Body.{Body}
-use Rattle.al_txn.specs.declared.body.Body.TheVariants as body
+use Rattle.al_bodies.specs.declared.body.KeyReg.{KeyReg}
+use Rattle.al_bodies.specs.declared.body.Config.{Config}
+use Rattle.al_bodies.specs.declared.body.AssetMove.{AssetMove}
+use Rattle.al_bodies.specs.declared.body.Freeze.{Freeze}
+use Rattle.al_bodies.specs.declared.body.Body.{Body}
+use Rattle.al_bodies.specs.declared.body.Body.TheVariants as body
 use Rattle.al_txn.specs.declared.chain.Chain.{Chain}
 use Rattle.al_txn.specs.declared.txn.Txn.{Txn}
 use Rattle.al_txn.specs.declared.txn.Item.{Item}

@@ -11,7 +11,7 @@ use Rattle.al_txn.specs.declared.item.ItemFault.{ItemFault}
 use Rattle.al_txn.specs.declared.item.ItemFault.TheVariants as faults
 use Rattle.al_record.specs.Columns.{FieldOf, Format, entries, rules_of, record_field, records_field, first_fault, text_of, map_of, value_at, member_open}
 use Rattle.al_txn.specs.Txn.{txn}
-use Rattle.al_txn.specs.Effect.{effect}
+use Rattle.al_bodies.specs.Effect.{effect}
 
 abbrev pub item_fields : ℕ → List (FieldOf Item)
 item_fields most =

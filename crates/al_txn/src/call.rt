@@ -4,13 +4,13 @@ ghost use Rattle.al_record.specs.Columns.{Reads, Passes, entries, field_fault, f
 ghost use Rattle.al_record.specs.Code.{table_of};
 ghost use Rattle.al_record.specs.Kinds.{text_kind};
 ghost use Rattle.al_record.specs.Canonical.{are_canonical};
-ghost use Rattle.al_txn.specs.Kept.{others, merged};
+ghost use Rattle.al_bodies.specs.Kept.{others, merged};
 ghost use Rattle.al_txn.specs.Txn.{txn, appl_txn, flat_appl, with_group};
 
 use crate::common::common;
-use crate::kept::{is_kept, kept, merged};
 use crate::{AppCall, Body, Txn};
 use al_base::Hash;
+use al_bodies::{is_kept, kept, merged};
 use al_msgpack::{Entries, Entry};
 use al_record::{
     ANY_BYTES, Column, Content, Fault, HASH, ReadError, Shape, check_ranges, fitting, listed,

@@ -3,31 +3,18 @@ ghost use Rattle.std.specs.Prelude.{◌≡◌, IsTrue, IfOk, codes, Ok};
 ghost use Rattle.al_record.specs.Columns.{Reads, entries};
 ghost use Rattle.al_record.specs.Kinds.{text_kind};
 ghost use Rattle.al_record.specs.Canonical.{are_canonical};
-ghost use Rattle.al_txn.specs.Txn.{txn, asset_params, acfg_txn, flat_acfg, with_group};
+ghost use Rattle.al_txn.specs.Txn.{txn, acfg_txn, flat_acfg, with_group};
 
 use crate::common::common;
 use crate::{Body, Config, Txn};
-use al_base::{Address, AssetParams, Hash};
+use al_base::Hash;
+use al_bodies::{params_entries, read_params};
 use al_msgpack::{Entries, Entry};
 use al_record::{
-    ANY_BYTES, Column, Content, HASH, ReadError, Shape, array, check, check_fields, check_ranges,
-    flag, listed, map, number, put_map, text,
+    ANY_BYTES, Column, Content, HASH, ReadError, Shape, check_fields, check_ranges, listed, map,
+    number, put_map,
 };
 use std::alloc::{AllocError, Global};
-
-const PARAMS: [Column; 11] = [
-    Column("am", HASH),
-    Column("an", Shape::Text),
-    Column("au", Shape::Text),
-    Column("c", HASH),
-    Column("dc", Shape::Number),
-    Column("df", Shape::Flag),
-    Column("f", HASH),
-    Column("m", HASH),
-    Column("r", HASH),
-    Column("t", Shape::Number),
-    Column("un", Shape::Text),
-];
 
 const CONFIG: [Column; 13] = [
     Column("apar", Shape::Map),
@@ -44,50 +31,6 @@ const CONFIG: [Column; 13] = [
     Column("snd", HASH),
     Column("type", Shape::Text),
 ];
-
-/// The parameters of an asset, or the first fault of their record.
-pub fn read_params(alloc: Global, entries: &[Entry]) -> Result<AssetParams, ReadError>
-    requires { IsTrue (are_canonical entries.now) }
-    ensures { Reads asset_params entries.now result }
-{
-    check(alloc, entries, &PARAMS)?;
-    Ok(AssetParams {
-        total: number(entries, "t"),
-        decimals: number(entries, "dc"),
-        default_frozen: flag(entries, "df"),
-        unit: text(alloc, entries, "un")?,
-        name: text(alloc, entries, "an")?,
-        url: text(alloc, entries, "au")?,
-        meta: array(entries, "am"),
-        manager: Address(array(entries, "m")),
-        reserve: Address(array(entries, "r")),
-        freeze: Address(array(entries, "f")),
-        clawback: Address(array(entries, "c")),
-    })
-}
-
-/// The record of an asset's parameters.
-pub fn params_entries(alloc: Global, p: &AssetParams) -> Result<Entries, AllocError>
-    ensures { IfOk result (λ es. es ≡ asset_params.write p.now) }
-{
-    listed(
-        alloc,
-        &PARAMS,
-        &[
-            Content::Array(&p.meta),
-            Content::Text(&p.name),
-            Content::Text(&p.url),
-            Content::Array(&p.clawback.0),
-            Content::Number(p.decimals),
-            Content::Flag(p.default_frozen),
-            Content::Array(&p.freeze.0),
-            Content::Array(&p.manager.0),
-            Content::Array(&p.reserve.0),
-            Content::Number(p.total),
-            Content::Text(&p.unit),
-        ],
-    )
-}
 
 /// A transaction of this type, or the first fault.
 pub fn read_config(alloc: Global, entries: &[Entry]) -> Result<Txn, ReadError>

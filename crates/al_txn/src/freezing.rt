@@ -1,17 +1,16 @@
 //! Holdings frozen, or no longer.
 ghost use Rattle.std.specs.Prelude.{◌≡◌, IsTrue, IfOk, codes, Ok};
-ghost use Rattle.al_record.specs.Columns.{Reads, AllShown, entries};
+ghost use Rattle.al_record.specs.Columns.{Reads, entries};
 ghost use Rattle.al_record.specs.Kinds.{text_kind};
 ghost use Rattle.al_record.specs.Canonical.{are_canonical};
-ghost use Rattle.al_txn.specs.Txn.{txn, afrz, afrz_txn, with_group};
+ghost use Rattle.al_txn.specs.Txn.{txn, afrz_txn, with_group};
 
 use crate::common::common;
 use crate::{Body, Freeze, Txn};
-use al_base::{Address, Hash};
+use al_base::Hash;
+use al_bodies::freeze_of;
 use al_msgpack::{Entries, Entry};
-use al_record::{
-    ANY_BYTES, Column, Content, HASH, ReadError, Shape, array, check, flag, listed, number,
-};
+use al_record::{ANY_BYTES, Column, Content, HASH, ReadError, Shape, check, listed};
 use std::alloc::{AllocError, Global};
 
 const FREEZE: [Column; 14] = [
@@ -40,17 +39,6 @@ pub fn read_freeze(alloc: Global, entries: &[Entry]) -> Result<Txn, ReadError>
     check(alloc, entries, &FREEZE)?;
     let body = Body::Freeze(freeze_of(entries));
     Ok(common(alloc, entries, body)?)
-}
-
-/// What stands in a record that has passed its checks.
-pub fn freeze_of(entries: &[Entry]) -> Freeze
-    ensures { AllShown afrz result entries.now }
-{
-    Freeze {
-        account: Address(array(entries, "fadd")),
-        asset: number(entries, "faid"),
-        frozen: flag(entries, "afrz"),
-    }
 }
 
 /// The record of a transaction of this type, with this group.

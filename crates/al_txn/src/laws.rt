@@ -1,6 +1,7 @@
 //! The laws of the records.
-ghost use Rattle.al_txn.specs.Txn.{asset_params, txn};
-ghost use Rattle.al_txn.specs.Effect.{inner_txn, effect};
+ghost use Rattle.al_bodies.specs.Bodies.{asset_params};
+ghost use Rattle.al_txn.specs.Txn.{txn};
+ghost use Rattle.al_bodies.specs.Effect.{inner_txn, effect};
 ghost use Rattle.al_txn.specs.Item.{item};
 ghost use Rattle.al_txn.specs.Laws.{Determines};
 

@@ -8,19 +8,14 @@
 //! spellings: [`txid`], [`group_id`].
 #![tactic(auto)]
 
-mod body;
 mod call;
 mod chain;
 mod common;
 mod configuration;
-mod effect;
-mod effect_record;
 mod form;
 mod freezing;
 mod id;
-mod inner;
 mod item;
-mod kept;
 mod laws;
 mod payment;
 mod record;
@@ -28,9 +23,10 @@ mod registration;
 mod transfer;
 mod txn;
 
-pub use body::{AppCall, AssetMove, Body, Config, Freeze, KeyReg, Pay};
+pub use al_bodies::{
+    AppCall, AssetMove, Body, Config, Effect, Effects, Freeze, Inner, KeyReg, Pay,
+};
 pub use chain::Chain;
-pub use effect::{Effect, Effects, Inner};
 pub use form::{Ill, well_formed};
 pub use id::{digest_val, encode_txn, group_id, txid};
 pub use item::{ItemFault, decode_item};

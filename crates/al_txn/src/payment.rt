@@ -1,15 +1,16 @@
 //! Payments.
 ghost use Rattle.std.specs.Prelude.{◌≡◌, IsTrue, IfOk, codes, Ok};
-ghost use Rattle.al_record.specs.Columns.{Reads, AllShown, entries};
+ghost use Rattle.al_record.specs.Columns.{Reads, entries};
 ghost use Rattle.al_record.specs.Kinds.{text_kind};
 ghost use Rattle.al_record.specs.Canonical.{are_canonical};
-ghost use Rattle.al_txn.specs.Txn.{txn, pay, pay_txn, with_group};
+ghost use Rattle.al_txn.specs.Txn.{txn, pay_txn, with_group};
 
 use crate::common::common;
 use crate::{Body, Pay, Txn};
-use al_base::{Address, Hash};
+use al_base::Hash;
+use al_bodies::pay_of;
 use al_msgpack::{Entries, Entry};
-use al_record::{ANY_BYTES, Column, Content, HASH, ReadError, Shape, array, check, listed, number};
+use al_record::{ANY_BYTES, Column, Content, HASH, ReadError, Shape, check, listed};
 use std::alloc::{AllocError, Global};
 
 const PAY: [Column; 14] = [
@@ -38,17 +39,6 @@ pub fn read_pay(alloc: Global, entries: &[Entry]) -> Result<Txn, ReadError>
     check(alloc, entries, &PAY)?;
     let body = Body::Pay(pay_of(entries));
     Ok(common(alloc, entries, body)?)
-}
-
-/// What stands in a record that has passed its checks.
-pub fn pay_of(entries: &[Entry]) -> Pay
-    ensures { AllShown pay result entries.now }
-{
-    Pay {
-        receiver: Address(array(entries, "rcv")),
-        amount: number(entries, "amt"),
-        close: Address(array(entries, "close")),
-    }
 }
 
 /// The record of a transaction of this type, with this group.

@@ -1,17 +1,16 @@
 //! Registrations of keys.
 ghost use Rattle.std.specs.Prelude.{◌≡◌, IsTrue, IfOk, codes, Ok};
-ghost use Rattle.al_record.specs.Columns.{Reads, AllShown, entries};
+ghost use Rattle.al_record.specs.Columns.{Reads, entries};
 ghost use Rattle.al_record.specs.Kinds.{text_kind};
 ghost use Rattle.al_record.specs.Canonical.{are_canonical};
-ghost use Rattle.al_txn.specs.Txn.{txn, keyreg, keyreg_txn, with_group};
+ghost use Rattle.al_txn.specs.Txn.{txn, keyreg_txn, with_group};
 
 use crate::common::common;
 use crate::{Body, KeyReg, Txn};
 use al_base::Hash;
+use al_bodies::keyreg_of;
 use al_msgpack::{Entries, Entry};
-use al_record::{
-    ANY_BYTES, Column, Content, HASH, ReadError, Shape, array, check, flag, listed, number,
-};
+use al_record::{ANY_BYTES, Column, Content, HASH, ReadError, Shape, check, listed};
 use std::alloc::{AllocError, Global};
 
 const KEYREG: [Column; 18] = [
@@ -44,21 +43,6 @@ pub fn read_keyreg(alloc: Global, entries: &[Entry]) -> Result<Txn, ReadError>
     check(alloc, entries, &KEYREG)?;
     let body = Body::KeyReg(keyreg_of(entries));
     Ok(common(alloc, entries, body)?)
-}
-
-/// What stands in a record that has passed its checks.
-pub fn keyreg_of(entries: &[Entry]) -> KeyReg
-    ensures { AllShown keyreg result entries.now }
-{
-    KeyReg {
-        vote: array(entries, "votekey"),
-        selection: array(entries, "selkey"),
-        sprf: array(entries, "sprfkey"),
-        first: number(entries, "votefst"),
-        last: number(entries, "votelst"),
-        dilution: number(entries, "votekd"),
-        nonpart: flag(entries, "nonpart"),
-    }
 }
 
 /// The record of a transaction of this type, with this group.

@@ -1,15 +1,16 @@
 //! Units of assets that move.
 ghost use Rattle.std.specs.Prelude.{◌≡◌, IsTrue, IfOk, codes, Ok};
-ghost use Rattle.al_record.specs.Columns.{Reads, AllShown, entries};
+ghost use Rattle.al_record.specs.Columns.{Reads, entries};
 ghost use Rattle.al_record.specs.Kinds.{text_kind};
 ghost use Rattle.al_record.specs.Canonical.{are_canonical};
-ghost use Rattle.al_txn.specs.Txn.{txn, axfer, axfer_txn, with_group};
+ghost use Rattle.al_txn.specs.Txn.{txn, axfer_txn, with_group};
 
 use crate::common::common;
 use crate::{AssetMove, Body, Txn};
-use al_base::{Address, Hash};
+use al_base::Hash;
+use al_bodies::move_of;
 use al_msgpack::{Entries, Entry};
-use al_record::{ANY_BYTES, Column, Content, HASH, ReadError, Shape, array, check, listed, number};
+use al_record::{ANY_BYTES, Column, Content, HASH, ReadError, Shape, check, listed};
 use std::alloc::{AllocError, Global};
 
 const MOVE: [Column; 16] = [
@@ -40,19 +41,6 @@ pub fn read_move(alloc: Global, entries: &[Entry]) -> Result<Txn, ReadError>
     check(alloc, entries, &MOVE)?;
     let body = Body::Move(move_of(entries));
     Ok(common(alloc, entries, body)?)
-}
-
-/// What stands in a record that has passed its checks.
-pub fn move_of(entries: &[Entry]) -> AssetMove
-    ensures { AllShown axfer result entries.now }
-{
-    AssetMove {
-        asset: number(entries, "xaid"),
-        amount: number(entries, "aamt"),
-        source: Address(array(entries, "asnd")),
-        receiver: Address(array(entries, "arcv")),
-        close: Address(array(entries, "aclose")),
-    }
 }
 
 /// The record of a transaction of this type, with this group.

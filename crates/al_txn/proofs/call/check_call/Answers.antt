@@ -1,7 +1,7 @@
 use Rattle.std.proofs.Common.{refl}
 use Rattle.al_record.specs.Columns.{rules_of}
 use Rattle.al_txn.specs.Txn.{appl_txn}
-use Rattle.al_txn.proofs.Apart.{range_others}
+use Rattle.al_bodies.proofs.Apart.{range_others}
 use Rattle.al_txn.proofs.call.check_call.Goals as goal
 
 pub returns : goal.returns

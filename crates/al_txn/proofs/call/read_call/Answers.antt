@@ -1,11 +1,11 @@
 use Rattle.std.proofs.Common.{◌≡◌, rules, refl, sym, ap, ap₂, codes, true, ◌∙◌}
-use Rattle.al_txn.specs.declared.body.AppCall.{AppCall}
-use Rattle.al_txn.specs.Kept.{are_kept, others, merged}
+use Rattle.al_bodies.specs.declared.body.AppCall.{AppCall}
+use Rattle.al_bodies.specs.Kept.{are_kept, others, merged}
 use Rattle.al_txn.specs.Txn.{txn, txn_fault, written, appl_txn}
 use Rattle.al_record.specs.Columns.{entries}
 use Rattle.al_record.proofs.Engine.{is_record, passes_on}
 use Rattle.al_record.proofs.OfKind.{text_shown}
-use Rattle.al_txn.proofs.Apart.{kept_only, shown_others, others_canonical, join}
+use Rattle.al_bodies.proofs.Apart.{kept_only, shown_others, others_canonical, join}
 use Rattle.al_txn.proofs.call.read_call.Goals as goal
 
 pub returns-in_err-check_call : goal.returns-in_err-check_call

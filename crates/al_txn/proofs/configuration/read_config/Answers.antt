@@ -1,5 +1,6 @@
 use Rattle.std.proofs.Common.{◌≡◌, rules, refl, sym, ap, codes, None, ◌∙◌}
-use Rattle.al_txn.specs.Txn.{txn, txn_fault, written, acfg_txn, flat_acfg, asset_params}
+use Rattle.al_bodies.specs.Bodies.{asset_params}
+use Rattle.al_txn.specs.Txn.{txn, txn_fault, written, acfg_txn, flat_acfg}
 use Rattle.al_record.specs.Columns.{first_fault, range_fault, rules_of, map_of, value_at}
 use Rattle.al_record.proofs.Canonical.{inner_canonical}
 use Rattle.al_record.proofs.Engine.{is_record, passes_on}

@@ -1,4 +1,4 @@
-use Rattle.al_txn.proofs.Written.{back_from}
+use Rattle.al_bodies.proofs.Written.{back_from}
 use Rattle.al_txn.proofs.id.encode_txn.Goals as goal
 
 pub returns-clause-back : goal.returns-clause-back

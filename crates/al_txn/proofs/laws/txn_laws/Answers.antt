@@ -1,5 +1,7 @@
-use Rattle.al_txn.proofs.Same.{params_determined, txn_determined}
-use Rattle.al_txn.proofs.SameItem.{inner_determined, effect_determined, item_determined}
+use Rattle.al_bodies.proofs.Same.{params_determined}
+use Rattle.al_txn.proofs.Same.{txn_determined}
+use Rattle.al_bodies.proofs.SameEffect.{inner_determined, effect_determined}
+use Rattle.al_txn.proofs.SameItem.{item_determined}
 use Rattle.al_txn.proofs.laws.txn_laws.Goals as goal
 
 pub returns-clause-params : goal.returns-clause-params

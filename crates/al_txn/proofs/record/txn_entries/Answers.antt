@@ -1,8 +1,8 @@
 use Rattle.std.proofs.Common.{◌≡◌, List, IfOk, Result, Ok, Err, refl, ◌∙◌}
 use Rattle.al_msgpack.specs.declared.val.Entry.{Entry}
 use Rattle.al_txn.specs.declared.txn.Txn.{Txn}
-use Rattle.al_txn.specs.declared.body.Body.{Body}
-use Rattle.al_txn.specs.declared.body.Body.TheVariants as bodies
+use Rattle.al_bodies.specs.declared.body.Body.{Body}
+use Rattle.al_bodies.specs.declared.body.Body.TheVariants as bodies
 use Rattle.al_txn.specs.Txn.{txn, written, with_group}
 use Rattle.al_txn.proofs.record.txn_entries.Goals as goal
 

@@ -5,7 +5,7 @@ use Rattle.al_record.proofs.Canonical.{inner_canonical, inners_canonical}
 use Rattle.al_record.proofs.Engine.{is_record}
 use Rattle.al_record.proofs.OfKind.{of_kind}
 use Rattle.al_txn.specs.declared.txn.Item.{Item}
-use Rattle.al_txn.specs.Effect.{effect}
+use Rattle.al_bodies.specs.Effect.{effect}
 use Rattle.al_txn.specs.Item.{item, item_fields, most_effects}
 use Rattle.al_txn.specs.Txn.{txn}
 use Rattle.al_txn.proofs.item.ItemRecord.read.Goals as goal

@@ -1,0 +1,5 @@
+pub mod Apart
+pub mod Names
+pub mod Same
+pub mod SameEffect
+pub mod Written
