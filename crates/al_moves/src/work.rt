@@ -282,7 +282,8 @@ impl<V: RowView> Work<V> {
     pub fn check_minimum(&mut self) -> Result<(), Stop<V::Fault>>
         ensures { Does V.tells (checked self.old.level self.old.special self.old.start self.old.now) self.old self.new result }
     {
-        match first_shortfall(self.level, &self.special, &self.started, &self.rows) {
+        let started = self.started.as_slice();
+        match first_shortfall(self.level, &self.special, started, &self.rows) {
             Some(rule) => Err(Stop::Rule(rule)),
             None => Ok(()),
         }
