@@ -1,5 +1,5 @@
 -- The totals of accounts by status: what they add up to, how they rise, and how they follow the rows.
-use Rattle.std.proofs.Common.{◌≡◌, ℕ, ◌+◌, ◌-◌, ◌*◌, ◌/◌, ◌<◌, ◌≤◌, ◌^◌, refl, sym, ap, ap₂, ◌∙◌, subst, List, [], ◌∷◌, map, Option, Some, None, Bool, true, false, cond, if◌then◌else◌, IsSome, IfSome, T, is_eq, is_lt, is_some, arith, mul-zero, mul_comm, true≢false}
+use Rattle.std.proofs.Common.{◌≡◌, ℕ, ◌+◌, ◌-◌, ◌*◌, ◌/◌, ◌<◌, ◌≤◌, ◌^◌, refl, sym, ap, ap₂, ◌∙◌, subst, List, [], ◌∷◌, map, Option, Some, None, Bool, true, false, cond, if◌then◌else◌, IsSome, IfSome, T, is_eq, is_lt, is_some, arith, mul-zero, mul_comm, true≢false, option_map}
 use Rattle.std.specs.Ordering.{eq_by_cmp}
 use Rattle.std.specs.Cmp.{eq_by_cmp_equiv}
 use Rattle.std.specs.List.{AllByRecursion}
@@ -24,10 +24,13 @@ use Rattle.al_rows.proofs.Keys.{keys_total, exact_keys}
 use Rattle.al_rows.proofs.Maps.{find-lookup, get-overlaid, get-set_at, total-plus, total-same, total-set_at, total-times}
 use Rattle.al_moves.specs.Moves.{earned, share_of}
 use Rattle.al_moves.specs.Money.{IsExact, IsWithin, MoneyIsCounted, RiseIsCounted, count, counts, in_place, money, money_at, recounted, share_at, units, units_at, worth}
-use Rattle.al_moves.specs.Works.{IsWork, at, now_at}
+use Rattle.al_moves.specs.declared.held.Held.{Held}
+use Rattle.al_moves.specs.Counted.{counted_anew}
+use Rattle.al_moves.specs.Works.{IsWork, at, befores, now_at, nows}
+use Rattle.al_moves.proofs.Changes.{each_at}
 use Rattle.al_moves.proofs.Firsts.{all_more, each_found, first_of, less, second_of, sorted, turned_less}
 use Rattle.al_moves.proofs.Monies.{pending_apart, worth_raised}
-use Rattle.al_moves.proofs.Overlays.{now_changed, same_key}
+use Rattle.al_moves.proofs.Overlays.{at-befores, now_changed, nows-ordered, same_key, some-before, told-before}
 
 -- ---- sums that weigh rows
 
@@ -321,14 +324,25 @@ before_block : (c : Option (Option Row)) (below : Option Row) → IfSome c (λ o
 before_block None below told had = absurd (true≢false (sym had))
 before_block (Some x) below told had = told
 
-pub work_counted : (level : ℕ) (t : Bool) (m : RowMap) (rs bs ss : List (Key × Option Row)) (before result : Totals) → IsWork t m rs bs ss → t ≡ true → IsStrictlySortedBy key_cmp (map (λ e. e.0) rs)
-    → result ≡ recounted bs before rs → before ≡ counts level m → IsWithin level m → IsWithin level (overlaid rs m) → result ≡ counts level (overlaid rs m)
+counted-held : (es : List (Key × Held)) (t : Totals) (xs : List (Key × Held)) → AllByRecursion (λ e. at es e.0 ≡ Some e.1) xs → counted_anew t xs ≡ recounted (befores es) t (nows xs)
+counted-held es t [] h = refl
+counted-held es t (e ∷ xs) h =
+    let old : now_at (befores es) e.0 ≡ e.1.block = ap (λ o. or_below o None) (at-befores es e.0 ∙ ap (option_map (λ h. h.block)) h.0) in
+    ap (λ o. counted_anew (in_place t (share_at o) (share_at e.1.row)) xs) (sym old)
+    ∙ counted-held es (in_place t (share_at (now_at (befores es) e.0)) (share_at e.1.row)) xs h.1
+
+pub work_counted : (level : ℕ) (t : Bool) (m : RowMap) (es : List (Key × Held)) (ss : List (Key × Option Row)) (before result : Totals) → IsWork t m es ss → t ≡ true → IsStrictlySortedBy key_cmp (map (λ e. e.0) es)
+    → result ≡ counted_anew before es → before ≡ counts level m → IsWithin level m → IsWithin level (overlaid (nows es) m) → result ≡ counts level (overlaid (nows es) m)
 unfolding IsWithin money
-work_counted level t m rs bs ss before result w told ordered value is block now =
-    let found : AllByRecursion (λ e. at rs e.0 ≡ Some e.1) rs = all_more rs (λ e is. sym (find-lookup keys_total rs e.0) ∙ is) (each_found rs (sorted rs ordered)) in
-    let few = weights-le (worth_by level) rs (overlaid rs m) (sorted rs ordered) (all_more rs (λ e is. now_changed rs m e.0 e.1 (sym is)) found) in
+work_counted level t m es ss before result w told ordered value is block now =
+    let rs = nows es in
+    let bs = befores es in
+    let all = sorted rs (nows-ordered es ordered) in
+    let found : AllByRecursion (λ e. at rs e.0 ≡ Some e.1) rs = all_more rs (λ e is. sym (find-lookup keys_total rs e.0) ∙ is) (each_found rs all) in
+    let few = weights-le (worth_by level) rs (overlaid rs m) all (all_more rs (λ e is. now_changed rs m e.0 e.1 (sym is)) found) in
     value
+    ∙ counted-held es before es (each_at es ordered)
     ∙ ap (λ (x : Totals). recounted bs x rs) is
-    ∙ counts_changed level bs rs m (sorted rs ordered)
-    (all_more rs (λ e is. before_block (at bs e.0) (get m e.0) (w.told told e.0) (w.has_block e.0 (ap is_some is))) found)
+    ∙ counts_changed level bs rs m all
+    (all_more rs (λ e is. before_block (at bs e.0) (get m e.0) (told-before es m e.0 (w.told told e.0)) (some-before es e.0 (ap is_some is))) found)
     (omega arith)

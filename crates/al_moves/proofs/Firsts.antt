@@ -108,3 +108,22 @@ first_over g f (e ∷ es) h = ap₂ option_or h.0 (first_over g f es h.1)
 pub all_more : {A : Type 0} {P Q : A → Type 0} (es : List A) → ((x : A) → P x → Q x) → AllByRecursion P es → AllByRecursion Q es
 all_more [] f h = tt
 all_more (x ∷ xs) f h = (f x h.0, all_more xs f h.1)
+
+-- a list in the order of keys, as a finite map says it and as a BTreeMap does
+strictly_below : {X : Type 0} (k : Key) (es : List (Key × X)) → T (below_all key_cmp k es) → AllByRecursion (λ y. key_cmp k y ≡ Less) (map (λ e. e.0) es)
+strictly_below k [] h = tt
+strictly_below k (e ∷ es) h =
+    elim (key_cmp k e.0) as (λ r. T (is_lt r && below_all key_cmp k es) → (r ≡ Less) × AllByRecursion (λ y. key_cmp k y ≡ Less) (map (λ e. e.0) es)) [
+      | Less ↦ λ s. (refl, strictly_below k es s)
+      | Equal ↦ λ s. absurd s
+      | Greater ↦ λ s. absurd s
+    ] h
+
+both_parts : (a b : Bool) → T (a && b) → T a × T b
+both_parts true b p = (tt, p)
+both_parts false b p = absurd p
+
+pub strictly : {X : Type 0} (es : List (Key × X)) → T (is_sorted key_cmp es) → IsStrictlySortedBy key_cmp (map (λ e. e.0) es)
+unfolding IsStrictlySortedBy
+strictly [] h = tt
+strictly (e ∷ es) h = let p = both_parts (below_all key_cmp e.0 es) (is_sorted key_cmp es) h in (strictly_below e.0 es p.0, strictly es p.1)

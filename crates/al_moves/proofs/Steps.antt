@@ -1,6 +1,9 @@
 -- One step after another, and a step that stops.
 use Rattle.std.proofs.Common.{◌≡◌, ◌≤◌, ℕ, refl, sym, ap, ◌∙◌, subst, Bool, true, Result, Ok, Err, arith, IsErrAnd, Option, Some, None}
 use Rattle.std.proofs.lemmas.Result.{err_from_is_err_and}
+use Rattle.al_base.specs.declared.key.Key.{Key}
+use Rattle.al_rows.specs.declared.row.Row.{Row}
+use Rattle.al_rows.specs.Finite.{set_at}
 use Rattle.al_rows.specs.Rows.{RowMap}
 use Rattle.al_moves.specs.declared.rule.Rule.{Rule}
 use Rattle.al_moves.specs.declared.rule.Stop.{Stop}
@@ -97,3 +100,14 @@ asks-some t a o r is = record { fixed = fixed-itself t a; gives = λ _. ap (λ o
 
 pub asks-none : {F T : Type 0} (t : Bool) (a : Worked) (o : Option Rule) (x : T) → o ≡ None → Does {F = F} {T = T} t (unless_refused o a.now) a a (Ok x)
 asks-none t a o x is = record { fixed = fixed-itself t a; gives = λ _. ap (λ o. unless_refused o a.now) is; starts = λ _. refl; cause = tt }
+
+-- a row is set
+pub does-set : {F : Type 0} (t : Bool) (a b new : Worked) (k : Key) (v w : Option Row) → a ≡ b → new.level ≡ a.level → new.round ≡ a.round → new.special ≡ a.special → new.failures ≡ a.failures → new.lender ≡ a.lender → new.block ≡ a.block
+    → new.now ≡ set_at a.now k v → v ≡ w → new.start ≡ a.start → Does {F = F} {T = Unit {0}} t (Ok (set_at b.now k w)) b new (Ok tt)
+does-set {F} t a b new k v w same level round special failures lender block now value start =
+    subst (λ (x : Worked). Does {F = F} {T = Unit {0}} t (Ok (set_at x.now k w)) x new (Ok tt)) same (record {
+      fixed = record { level = level; round = round; special = special; failures = omega arith; lender = lender; block = λ _. block };
+      gives = λ _. ap Ok (sym (now ∙ ap (set_at a.now k) value));
+      starts = λ _. start;
+      cause = tt;
+    })

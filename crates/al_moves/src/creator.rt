@@ -4,7 +4,9 @@ ghost use Rattle.std.specs.BTreeMap.{IsOrdered};
 ghost use Rattle.al_base.specs.Keys.{key_cmp};
 ghost use Rattle.al_rows.specs.Finite.{first_some};
 ghost use Rattle.al_moves.specs.Creators.{first_creator, shown, shown_after, unchanged};
+ghost use Rattle.al_moves.specs.Works.{nows};
 
+use crate::held::{Held, is_held};
 use al_base::{Address, Key};
 use al_rows::Row;
 use std::collections::BTreeMap;
@@ -45,29 +47,28 @@ fn shown_after(id: u64, held: Option<Address>, key: &Key, row: &Option<Row>) -> 
 }
 
 // The view's creator, unless its row changed.
-fn unchanged(id: u64, viewed: Option<Address>, rows: &BTreeMap<Key, Option<Row>>) -> Option<Address>
-    ensures { result ≡ unchanged id viewed rows.now.entries }
+fn unchanged(id: u64, viewed: Option<Address>, rows: &BTreeMap<Key, Held>) -> Option<Address>
+    ensures { result ≡ unchanged id viewed (nows rows.now.entries) }
 {
     match viewed {
         None => None,
-        Some(who) => match rows.get(&Key::Resource(who, id)) {
-            Some(_) => None,
-            None => Some(who),
-        },
+        Some(who) => {
+            if is_held(rows, &Key::Resource(who, id)) {
+                None
+            } else {
+                Some(who)
+            }
+        }
     }
 }
 
 // The first creator that a changed row shows, or an unchanged one that stands before that row.
-fn creator_among(
-    id: u64,
-    held: Option<Address>,
-    rows: &BTreeMap<Key, Option<Row>>,
-) -> Option<Address>
-    ensures first { result ≡ first_some (λ e. shown_after id held e.0 e.1) rows.now.entries }
+fn creator_among(id: u64, held: Option<Address>, rows: &BTreeMap<Key, Held>) -> Option<Address>
+    ensures first { result ≡ first_some (λ e. shown_after id held e.0 e.1) (nows rows.now.entries) }
     ensures ordered { IsOrdered key_cmp rows.now }
 {
-    for (key, row) in rows {
-        if let Some(who) = shown_after(id, held, key, row) {
+    for (key, there) in rows {
+        if let Some(who) = shown_after(id, held, key, &there.row) {
             return Some(who);
         }
     }
@@ -75,12 +76,8 @@ fn creator_among(
 }
 
 /// The creator of an asset or an application, from that of the view and the changed rows.
-pub fn creator_over(
-    id: u64,
-    viewed: Option<Address>,
-    rows: &BTreeMap<Key, Option<Row>>,
-) -> Option<Address>
-    ensures first { result ≡ first_creator id (unchanged id viewed rows.now.entries) rows.now.entries }
+pub fn creator_over(id: u64, viewed: Option<Address>, rows: &BTreeMap<Key, Held>) -> Option<Address>
+    ensures first { result ≡ first_creator id (unchanged id viewed (nows rows.now.entries)) (nows rows.now.entries) }
     ensures ordered { IsOrdered key_cmp rows.now }
 {
     let held = unchanged(id, viewed, rows);

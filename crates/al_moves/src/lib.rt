@@ -2,6 +2,7 @@
 #![tactic(auto)]
 
 mod creator;
+mod held;
 mod laws;
 mod minimum;
 mod rule;
@@ -13,6 +14,3 @@ pub use laws::{money_is_counted, moves_are_fair, rise_is_counted, rise_is_earned
 pub use minimum::share_of;
 pub use rule::{Rule, Stop};
 pub use work::Work;
-
-#[cfg(test)]
-mod tests;

@@ -1,13 +1,12 @@
 //! The minimum balances of what a transaction changed.
 ghost use Rattle.std.specs.Prelude.{◌≡◌, ◌^◌, ◌≤◌, Option, Some, None, IfSome};
-ghost use Rattle.std.specs.BTreeMap.{IsOrdered};
-ghost use Rattle.al_base.specs.Keys.{key_cmp};
 ghost use Rattle.al_rows.specs.Finite.{first_some};
 ghost use Rattle.al_rows.specs.Rows.{AccountInRange, InRange, IsKept};
 ghost use Rattle.al_moves.specs.Moves.{earned, lacking, share_of, shortfall};
-ghost use Rattle.al_moves.specs.Works.{at, now_at};
+ghost use Rattle.al_moves.specs.Works.{at, now_at, nows};
 
 use crate::Rule;
+use crate::held::Held;
 use al_base::{Address, Key, Special};
 use al_rewards::{Share, pending};
 use al_rows::{AccountRow, Row, account_in, same_row};
@@ -68,36 +67,35 @@ fn shortfall(
     }
 }
 
-// The shortfall at a key that may have changed.
+// The shortfall at a key that may be held.
 fn shortfall_at(
     level: u64,
     special: &Special,
     key: &Key,
     old: &Option<Row>,
-    rows: &BTreeMap<Key, Option<Row>>,
+    rows: &BTreeMap<Key, Held>,
 ) -> Option<Rule>
-    requires { IfSome (at rows.now.entries key.now) (λ row. IfSome row (IsKept key.now)) }
-    ensures { result ≡ shortfall level special.now key.now old.now (now_at rows.now.entries key.now) }
+    requires { IfSome (at rows.now.entries key.now) (λ h. IfSome h.row (InRange key.now)) }
+    ensures { result ≡ shortfall level special.now key.now old.now (now_at (nows rows.now.entries) key.now) }
 {
     match rows.get(key) {
-        Some(now) => shortfall(level, special, key, old, now),
+        Some(held) => shortfall(level, special, key, old, &held.row),
         None => shortfall(level, special, key, old, &None),
     }
 }
 
-/// The first shortfall among the rows that changed, in the order of keys.
+/// The first shortfall among the rows that changed, in their order.
 pub fn first_shortfall(
     level: u64,
     special: &Special,
-    started: &BTreeMap<Key, Option<Row>>,
-    rows: &BTreeMap<Key, Option<Row>>,
+    started: &[(Key, Option<Row>)],
+    rows: &BTreeMap<Key, Held>,
 ) -> Option<Rule>
-    requires { (q : Key) → IfSome (at rows.now.entries q) (λ row. IfSome row (IsKept q)) }
-    ensures first { result ≡ first_some (λ e. shortfall level special.now e.0 e.1 (now_at rows.now.entries e.0)) started.now.entries }
-    ensures ordered { IsOrdered key_cmp started.now }
+    requires { (q : Key) → IfSome (at rows.now.entries q) (λ h. IfSome h.row (InRange q)) }
+    ensures { result ≡ first_some (λ e. shortfall level special.now e.0 e.1 (now_at (nows rows.now.entries) e.0)) started.now }
 {
-    for (key, old) in started {
-        if let Some(rule) = shortfall_at(level, special, key, old, rows) {
+    for entry in started {
+        if let Some(rule) = shortfall_at(level, special, &entry.0, &entry.1, rows) {
             return Some(rule);
         }
     }

@@ -3,6 +3,7 @@ ghost use Rattle.std.specs.Prelude.{◌≡◌, ℕ};
 ghost use Rattle.al_moves.specs.Moves.{held_until, of_account, plain_rule, too_few, too_little};
 
 use al_base::Address;
+use std::alloc::AllocError;
 
 /// A broken rule. A kept value is there exactly where the rule names it.
 #[derive(Clone, Copy, Debug, PartialEq, Eq)]
@@ -30,6 +31,17 @@ pub enum Stop<F> {
     View(F),
     /// There is no memory.
     Memory,
+}
+
+impl<F: Drop> From<AllocError> for Stop<F> {
+    ghost use Rattle.std.specs.Prelude.{◌≡◌};
+    ghost use Rattle.al_moves.specs.declared.rule.Stop.TheVariants.{Memory};
+
+    ghost from_gives = { λ _ e. e ≡ Memory };
+
+    fn from(_: AllocError) -> Stop<F> {
+        Stop::Memory
+    }
 }
 
 impl Rule {

@@ -9,18 +9,19 @@ ghost use Rattle.al_rewards.specs.Pending.{max_balance};
 ghost use Rattle.al_rows.specs.Finite.{set_at, or_below, overlaid};
 ghost use Rattle.al_rows.specs.Rows.{AccountInRange, CountsInRange, InRange, IsKept, RowMap, account, creator_of, same_row};
 ghost use Rattle.al_moves.specs.Money.{IsWithin, counts};
-ghost use Rattle.al_moves.specs.Moves.{AreChanges, change_of, checked, closed, closed_at, credited, differing, give, has_no_counts, moved, paid, paid_amount, paid_close, put_account, rekeyed, take_in};
-ghost use Rattle.al_moves.specs.Works.{Does, HasOneCreator, IsNoRule, IsWork, Looks, at, nonzero, now_at};
+ghost use Rattle.al_moves.specs.Moves.{AreChanges, change_of, checked, closed, closed_at, credited, give, has_no_counts, moved, paid, paid_amount, paid_close, put_account, rekeyed, take_in};
+ghost use Rattle.al_moves.specs.Works.{Does, HasOneCreator, IsNoRule, Looks, changed, nonzero};
 
 use crate::creator::creator_over;
+use crate::held::{
+    Held, Unset, account_held, hold_account, row_held, set_held, set_viewed, viewed,
+};
 use crate::minimum::{earned, first_shortfall};
 use crate::totals::totals_of;
 use crate::{Rule, Stop};
 use al_base::{Address, Key, Special, Status};
 use al_rewards::{MAX_BALANCE, Totals};
-use al_rows::{
-    AccountRow, Change, Changes, Row, RowView, ViewFault, account_in, copy_row, same_row,
-};
+use al_rows::{AccountRow, Change, Changes, Row, RowView, ViewFault, account_in, same_row};
 use al_txn::Pay;
 use std::alloc::{AllocError, Global};
 use std::collections::BTreeMap;
@@ -36,14 +37,13 @@ pub struct Work<V: RowView> {
     level: u64,
     round: u64,
     special: Special,
-    rows: BTreeMap<Key, Option<Row>>,
-    blocks: BTreeMap<Key, Option<Row>>,
-    started: BTreeMap<Key, Option<Row>>,
+    rows: BTreeMap<Key, Held>,
+    started: Vec<(Key, Option<Row>)>,
 }
 
 impl<V: RowView> Model for Work<V> {
     ghost use Rattle.al_rows.specs.Finite.{overlaid};
-    ghost use Rattle.al_moves.specs.Works.{IsWork, Worked};
+    ghost use Rattle.al_moves.specs.Works.{IsWork, Worked, nows};
     ghost use Rattle.std.specs.FinMap as map;
     ghost use Rattle.std.specs.Coded.{codes};
     ghost use Rattle.al_base.specs.Keys.{key_cmp};
@@ -56,8 +56,8 @@ impl<V: RowView> Model for Work<V> {
 
     ghost view = { λ w. record {
       block = V.rows w.view;
-      start = overlaid w.started.entries (overlaid w.rows.entries (V.rows w.view));
-      now = overlaid w.rows.entries (V.rows w.view);
+      start = overlaid w.started.items (overlaid (nows w.rows.entries) (V.rows w.view));
+      now = overlaid (nows w.rows.entries) (V.rows w.view);
       level = w.level;
       round = w.round;
       special = w.special;
@@ -65,47 +65,7 @@ impl<V: RowView> Model for Work<V> {
       lender = V.lender w.view;
     } };
 
-    ghost invariant = { λ w. IsWork V.tells (V.rows w.view) w.rows.entries w.blocks.entries w.started.entries };
-}
-
-// The row that a map has under a key.
-fn kept_at(
-    alloc: Global,
-    rows: &BTreeMap<Key, Option<Row>>,
-    key: &Key,
-) -> Result<Option<Option<Row>>, AllocError>
-    ensures { IfOk result (λ r. r ≡ at rows.now.entries key.now) }
-{
-    match rows.get(key) {
-        None => Ok(None),
-        Some(row) => Ok(Some(copy_row(alloc, row)?)),
-    }
-}
-
-// Puts a row into a map.
-fn put(rows: &mut BTreeMap<Key, Option<Row>>, key: &Key, row: Option<Row>) -> Result<(), AllocError>
-    ensures ok { OnOk result ((q : _) → at rows.new.entries q ≡ cond (is_at (key_cmp key.now) q) (Some row) (at rows.old.entries q)) }
-    ensures err { OnErr result (rows.new.entries ≡ rows.old.entries) }
-{
-    match rows.insert(*key, row) {
-        Ok(_) => Ok(()),
-        Err(_) => Err(AllocError),
-    }
-}
-
-// Puts a row into a map that has none under the key.
-fn put_new(
-    rows: &mut BTreeMap<Key, Option<Row>>,
-    key: &Key,
-    row: Option<Row>,
-) -> Result<(), AllocError>
-    ensures ok { OnOk result ((q : _) → at rows.new.entries q ≡ cond (is_at (key_cmp key.now) q) (Some (or_below (at rows.old.entries key.now) row)) (at rows.old.entries q)) }
-    ensures err { OnErr result (rows.new.entries ≡ rows.old.entries) }
-{
-    if rows.contains_key(key) {
-        return Ok(());
-    }
-    put(rows, key, row)
+    ghost invariant = { λ w. IsWork V.tells (V.rows w.view) w.rows.entries w.started.items };
 }
 
 impl<V: RowView> Work<V> {
@@ -120,8 +80,7 @@ impl<V: RowView> Work<V> {
             round,
             special,
             rows: BTreeMap::new(alloc),
-            blocks: BTreeMap::new(alloc),
-            started: BTreeMap::new(alloc),
+            started: Vec::new(alloc),
         }
     }
 
@@ -129,7 +88,7 @@ impl<V: RowView> Work<V> {
     pub fn begin(&mut self)
         ensures { self.new ≡ record self.old { start = self.old.now } }
     {
-        self.started = BTreeMap::new(self.alloc);
+        self.started.clear();
     }
 
     /// The row with the changes so far.
@@ -138,16 +97,12 @@ impl<V: RowView> Work<V> {
         ensures value { V.tells ≡ true → IfOk result (λ row. row ≡ get self.old.now key.now) }
         ensures range { IfOk result (λ row. IfSome row (InRange key.now)) }
     {
-        match kept_at(self.alloc, &self.rows, key) {
+        match row_held(self.alloc, &self.rows, key) {
             Ok(Some(row)) => return Ok(row),
             Ok(None) => {}
             Err(_) => return Err(Stop::Memory),
         }
-        match self.view.row(key) {
-            Ok(row) => Ok(row),
-            Err(ViewFault::Failed(fault)) => Err(Stop::View(fault)),
-            Err(ViewFault::Memory) => Err(Stop::Memory),
-        }
+        viewed(&mut self.view, key)
     }
 
     /// The creator of an asset or an application with the changes so far: the address whose row
@@ -171,19 +126,18 @@ impl<V: RowView> Work<V> {
         ensures done { Does V.tells (Ok (set_at self.old.now key.now (nonzero row))) self.old self.new result }
         ensures no_rule { IsNoRule result }
     {
-        let old = self.row(key)?;
         let row = nonzero(key, row);
-        match set_in(
-            self.alloc,
-            &mut self.rows,
-            &mut self.blocks,
-            &mut self.started,
-            key,
-            row,
-            old,
-        ) {
+        match set_held(&mut self.rows, &mut self.started, key, row) {
             Ok(()) => Ok(()),
-            Err(AllocError) => Err(Stop::Memory),
+            Err(Unset::Memory) => Err(Stop::Memory),
+            Err(Unset::Absent(row)) => set_viewed(
+                self.alloc,
+                &mut self.view,
+                &mut self.rows,
+                &mut self.started,
+                key,
+                row,
+            ),
         }
     }
 }
@@ -195,8 +149,8 @@ impl<V: RowView> Work<V> {
         ensures value { V.tells ≡ true → IfOk result (λ r. r ≡ credited self.old.level (account self.old.now who.now)) }
         ensures range { IfOk result (λ r. (r.balance ≤ 2 * max_balance) × CountsInRange r) }
     {
-        let row = self.row(&Key::Account(*who))?;
-        Ok(credited(self.level, account_in(&row)))
+        let r = self.account(who)?;
+        Ok(credited(self.level, r))
     }
 
     // Puts an account, unless its balance passes the most.
@@ -268,8 +222,10 @@ impl<V: RowView> Work<V> {
         ensures value { V.tells ≡ true → IfOk result (λ r. r ≡ account self.old.now who.now) }
         ensures range { IfOk result (λ r. AccountInRange r) }
     {
-        let row = self.row(&Key::Account(*who))?;
-        Ok(account_in(&row))
+        match account_held(&self.rows, who) {
+            Some(r) => Ok(r),
+            None => hold_account(self.alloc, &mut self.view, &mut self.rows, who),
+        }
     }
 
     // The whole rest goes to the close address, and then the row.
@@ -326,7 +282,8 @@ impl<V: RowView> Work<V> {
     pub fn check_minimum(&mut self) -> Result<(), Stop<V::Fault>>
         ensures { Does V.tells (checked self.old.level self.old.special self.old.start self.old.now) self.old self.new result }
     {
-        match first_shortfall(self.level, &self.special, &self.started, &self.rows) {
+        let started = self.started.as_slice();
+        match first_shortfall(self.level, &self.special, started, &self.rows) {
             Some(rule) => Err(Stop::Rule(rule)),
             None => Ok(()),
         }
@@ -385,7 +342,7 @@ impl<V: RowView> Work<V> {
     pub fn totals(&self, before: &Totals) -> Totals
         ensures { V.tells ≡ true → before.now ≡ counts self.now.level self.now.block → IsWithin self.now.level self.now.block → IsWithin self.now.level self.now.now → result ≡ counts self.now.level self.now.now }
     {
-        totals_of(*before, &self.rows, &self.blocks)
+        totals_of(*before, &self.rows)
     }
 }
 
@@ -403,13 +360,12 @@ impl<V: RowView> Work<V> {
             alloc,
             view,
             rows,
-            blocks,
             level: _,
             round: _,
             special: _,
             started: _,
         } = self;
-        (changes(alloc, rows, &blocks), view)
+        (changes(alloc, rows), view)
     }
 
     /// The rows that differ from before the block, in the order of keys.
@@ -423,31 +379,17 @@ impl<V: RowView> Work<V> {
 }
 
 // Those rows that differ from the ones before.
-fn changes(
-    alloc: Global,
-    rows: BTreeMap<Key, Option<Row>>,
-    blocks: &BTreeMap<Key, Option<Row>>,
-) -> Result<Changes, AllocError>
-    ensures items { IfOk result (λ cs. map change_of cs ≡ differing blocks.now.entries rows.entries) }
+fn changes(alloc: Global, rows: BTreeMap<Key, Held>) -> Result<Changes, AllocError>
+    ensures items { IfOk result (λ cs. map change_of cs ≡ changed rows.entries) }
     ensures ordered { OnOk result (IsStrictlySortedBy key_cmp (map (λ e. e.0) rows.entries)) }
 {
     let mut out = Changes::new(alloc);
-    for (key, row) in rows {
-        if differs(blocks, &key, &row) {
-            out.push(Change { key, row })?;
+    for (key, held) in rows {
+        if !same_row(&held.block, &held.row) {
+            out.push(Change { key, row: held.row })?;
         }
     }
     Ok(out)
-}
-
-// Whether a row differs from the one before.
-fn differs(before: &BTreeMap<Key, Option<Row>>, key: &Key, row: &Option<Row>) -> bool
-    ensures { result ≡ not (same_row (now_at before.now.entries key.now) row.now) }
-{
-    match before.get(key) {
-        Some(old) => !same_row(old, row),
-        None => !same_row(&None, row),
-    }
 }
 
 // A zero row is no row.
@@ -460,26 +402,4 @@ fn nonzero(key: &Key, row: Option<Row>) -> Option<Row>
         Some(row) => row.unless_zero(),
         None => None,
     }
-}
-
-// Sets a row among those now, and keeps what stood there before the transaction and before the block.
-fn set_in(
-    alloc: Global,
-    rows: &mut BTreeMap<Key, Option<Row>>,
-    blocks: &mut BTreeMap<Key, Option<Row>>,
-    started: &mut BTreeMap<Key, Option<Row>>,
-    key: &Key,
-    row: Option<Row>,
-    old: Option<Row>,
-) -> Result<(), AllocError>
-    requires { IfSome row (IsKept key.now) }
-    ensures work { (t : Bool) (m : RowMap) → IsWork t m rows.old.entries blocks.old.entries started.old.entries → (t ≡ true → old ≡ get (overlaid rows.old.entries m) key.now) → IsWork t m rows.new.entries blocks.new.entries started.new.entries }
-    ensures now { OnOk result ((m : RowMap) → overlaid rows.new.entries m ≡ set_at (overlaid rows.old.entries m) key.now row) }
-    ensures start { OnOk result ((m : RowMap) → old ≡ get (overlaid rows.old.entries m) key.now → overlaid started.new.entries (overlaid rows.new.entries m) ≡ overlaid started.old.entries (overlaid rows.old.entries m)) }
-{
-    let block = copy_row(alloc, &old)?;
-    put_new(blocks, key, block)?;
-    put(rows, key, row)?;
-    put_new(started, key, old)?;
-    Ok(())
 }

@@ -8,8 +8,6 @@
 
 mod share;
 mod state;
-#[cfg(test)]
-mod tests;
 mod totals;
 mod totals_record;
 

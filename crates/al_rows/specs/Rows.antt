@@ -1,5 +1,5 @@
 -- The rows of the ledger by the Algorand ledger specification: what stands under which key, what it is worth, and when it is none.
-use Rattle.std.specs.Prelude.{◌≡◌, ℕ, ◌+◌, ◌*◌, ◌^◌, ◌≤◌, Bool, true, false, if◌then◌else◌, ◌&&◌, nat_eq, ⊤, List, [], ◌∷◌, replicate, length, is_none, is_some}
+use Rattle.std.specs.Prelude.{◌≡◌, ℕ, ◌+◌, ◌*◌, ◌^◌, ◌<◌, ◌≤◌, Bool, true, false, if◌then◌else◌, ◌&&◌, nat_eq, ⊤, List, [], ◌∷◌, replicate, length, is_none, is_some}
 use Rattle.std.specs.declared.option.Option.{Option}
 use Rattle.std.specs.declared.option.Option.TheVariants.{None, Some}
 use Rattle.std.specs.Cmp.Lexicographic.{pointwise}
@@ -54,12 +54,21 @@ abbrev pub LocalInRange : Option Local → Type 0
 LocalInRange None = ⊤
 LocalInRange (Some l) = (l.uints ≤ 64) × (l.slices ≤ 64) × (length l.state ≤ 8192)
 
--- a row is of its key's kind, and its fields are in their ranges
+-- what numbers of 64 bits may be
+abbrev pub AssetParamsInRange : Option AssetParams → Type 0
+AssetParamsInRange None = ⊤
+AssetParamsInRange (Some p) = (p.total < 2 ^ 64) × (p.decimals < 2 ^ 64)
+
+abbrev pub HoldingInRange : Option Holding → Type 0
+HoldingInRange None = ⊤
+HoldingInRange (Some h) = h.amount < 2 ^ 64
+
+-- a row is of its key's kind, and its fields and its key's number are in their ranges
 abbrev pub InRange : Key → Row → Type 0
 InRange (key.Account who) (row.Account r) = AccountInRange r
-InRange (key.Resource who id) (row.Asset a) = ⊤
-InRange (key.Resource who id) (row.App a) = ParamsInRange a.params × LocalInRange a.local
-InRange (key.Box app name) (row.Box b) = length b.value ≤ 32768
+InRange (key.Resource who id) (row.Asset a) = (id < 2 ^ 64) × AssetParamsInRange a.params × HoldingInRange a.holding
+InRange (key.Resource who id) (row.App a) = (id < 2 ^ 64) × ParamsInRange a.params × LocalInRange a.local
+InRange (key.Box app name) (row.Box b) = (app < 2 ^ 64) × (length b.value ≤ 32768)
 InRange k r = ⊥
 
 abbrev pub same_status : Status → Status → Bool

@@ -5,8 +5,6 @@ mod account;
 mod change;
 mod row;
 mod stored;
-#[cfg(test)]
-mod tests;
 mod view;
 
 pub use account::{AccountRow, account_in};

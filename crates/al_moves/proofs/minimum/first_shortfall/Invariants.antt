@@ -1,10 +1,10 @@
-use Rattle.std.proofs.Common.{◌≡◌}
+use Rattle.std.proofs.Common.{◌≡◌, drop}
 use Rattle.al_moves.specs.Moves.{shortfall}
 use Rattle.al_rows.specs.Finite.{first_some}
-use Rattle.al_moves.specs.Works.{now_at}
+use Rattle.al_moves.specs.Works.{now_at, nows}
 use Rattle.al_moves.proofs.minimum.first_shortfall.Given as goal
 
-abbrev pub invariant-loop-key : goal.invariant-loop-key
-invariant-loop-key l =
-    first_some (λ e. shortfall l.level l.special e.0 e.1 (now_at l.rows.entries e.0)) l.key-iterator
-    ≡ first_some (λ e. shortfall l.level l.special e.0 e.1 (now_at l.rows.entries e.0)) l.started.entries
+abbrev pub invariant-loop-entry : goal.invariant-loop-entry
+invariant-loop-entry l =
+    first_some (λ e. shortfall l.level l.special e.0 e.1 (now_at (nows l.rows.entries) e.0)) (drop l.entry-index l.started)
+    ≡ first_some (λ e. shortfall l.level l.special e.0 e.1 (now_at (nows l.rows.entries) e.0)) l.started

@@ -1,6 +1,6 @@
 use Rattle.std.proofs.Common.{◌≡◌}
-use Rattle.al_moves.specs.Money.{recounted}
+use Rattle.al_moves.specs.Counted.{counted_anew}
 use Rattle.al_moves.proofs.totals.totals_of.Given as goal
 
-abbrev pub invariant-loop-key : goal.invariant-loop-key
-invariant-loop-key l = recounted l.blocks.entries l.totals l.key-iterator ≡ recounted l.blocks.entries l.fn.before l.rows.entries
+abbrev pub invariant-loop-held : goal.invariant-loop-held
+invariant-loop-held l = counted_anew l.totals l.held-iterator ≡ counted_anew l.fn.before l.rows.entries

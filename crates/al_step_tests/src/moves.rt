@@ -1,5 +1,8 @@
-use super::*;
+ghost use Rattle.std.specs.Prelude.{IfOk};
+ghost use Rattle.al_rows.specs.Rows.{AssetParamsInRange, HoldingInRange};
+
 use al_base::{Address, AssetParams, Bytes, Key, Special, Status};
+use al_moves::{Changes, Rule, Stop, Work};
 use al_rewards::{Count, Totals};
 use al_rows::{AccountRow, AssetRow, Holding, MapView, Never, Row, account_in};
 use al_txn::Pay;
@@ -205,7 +208,9 @@ const CREATORS: [(Address, bool, Option<Address>); 8] = [
     (VOTER, false, Some(PAYER)),
 ];
 
-fn created(alloc: Global) -> Result<AssetRow, AllocError> {
+fn created(alloc: Global) -> Result<AssetRow, AllocError>
+    ensures { IfOk result (λ row. AssetParamsInRange row.params × HoldingInRange row.holding) }
+{
     Ok(AssetRow {
         params: Some(AssetParams {
             total: 1,
@@ -221,6 +226,20 @@ fn created(alloc: Global) -> Result<AssetRow, AllocError> {
             clawback: NOBODY,
         }),
         holding: None,
+    })
+}
+
+// The same, which its creator holds.
+fn created_and_held(alloc: Global) -> Result<AssetRow, AllocError>
+    ensures { IfOk result (λ row. AssetParamsInRange row.params × HoldingInRange row.holding) }
+{
+    let made = created(alloc)?;
+    Ok(AssetRow {
+        params: made.params,
+        holding: Some(Holding {
+            amount: 9,
+            frozen: true,
+        }),
     })
 }
 
@@ -270,5 +289,121 @@ fn creators(rt: HostRuntime) -> Result<(), Fail> {
         assert!(rt; work.creator(7).ok() == Some(creator));
         assert!(rt; work.creator(8).ok() == Some(None));
     }
+    Ok(())
+}
+
+/// Rekeys of the payer: to whom, and who signs then.
+const REKEYS: [(Address, Address); 5] = [
+    (RECEIVER, RECEIVER),
+    // A zero address changes nothing.
+    (NOBODY, RECEIVER),
+    (VOTER, VOTER),
+    // Its own address is itself.
+    (PAYER, NOBODY),
+    (PAYER, NOBODY),
+];
+
+#[test]
+fn rekeys(rt: HostRuntime) -> Result<(), Fail> {
+    let special = Special {
+        sink: SINK,
+        pool: POOL,
+    };
+    let view = holders(rt.alloc())?;
+    let mut work = Work::new(rt.alloc(), view, special, 0, 1);
+    for (to, auth) in REKEYS {
+        work.begin();
+        work.rekey(&PAYER, &to).ok().ok_or("rekey")?;
+        let row = work.row(&Key::Account(PAYER)).ok().ok_or("row")?;
+        let account = account_in(&row);
+        assert!(rt; account.auth == auth);
+        assert_eq!(rt; account.balance, 2_500_000);
+    }
+    // An account that has no row is given one.
+    work.rekey(&RECEIVER, &PAYER).ok().ok_or("rekey")?;
+    let row = work.row(&Key::Account(RECEIVER)).ok().ok_or("row")?;
+    assert!(rt; account_in(&row).auth == PAYER);
+    Ok(())
+}
+
+// A row is that of the view until it is set, with all of its parts.
+#[test]
+fn rows(rt: HostRuntime) -> Result<(), Fail> {
+    let alloc = rt.alloc();
+    let special = Special {
+        sink: SINK,
+        pool: POOL,
+    };
+    let key = Key::Resource(PAYER, 7);
+    let mut work = Work::new(alloc, one_asset(alloc)?, special, 0, 1);
+    let row = work.row(&key).ok().ok_or("row")?;
+    assert!(rt; row == Some(Row::Asset(created(alloc)?)));
+    let held = created_and_held(alloc)?;
+    work.set(&key, Some(Row::Asset(held))).ok().ok_or("set")?;
+    let row = work.row(&key).ok().ok_or("row")?;
+    assert!(rt; row == Some(Row::Asset(created_and_held(alloc)?)));
+    work.set(&key, None).ok().ok_or("set")?;
+    assert!(rt; work.row(&key).ok() == Some(None));
+    assert!(rt; work.row(&Key::Account(PAYER)).ok() == Some(None));
+    // A row that says nothing is none.
+    let zero = Row::Account(AccountRow::none());
+    work.set(&Key::Account(PAYER), Some(zero))
+        .ok()
+        .ok_or("set")?;
+    assert!(rt; work.row(&Key::Account(PAYER)).ok() == Some(None));
+    Ok(())
+}
+
+fn set_balance(work: &mut Work<MapView>, who: Address, balance: u64) -> bool {
+    if 10_000_000_000_000_000 < balance {
+        return false;
+    }
+    let row = AccountRow {
+        balance,
+        ..AccountRow::none()
+    };
+    work.set(&Key::Account(who), Some(Row::Account(row)))
+        .is_ok()
+}
+
+// The account that the test of minimum balances names, none where it passes.
+fn short(work: &mut Work<MapView>) -> Option<Option<Address>> {
+    match work.check_minimum() {
+        Ok(()) => Some(None),
+        Err(Stop::Rule(rule)) => Some(rule.who),
+        Err(_) => None,
+    }
+}
+
+// The least account below its minimum is named, of those that differ from the transaction's start.
+#[test]
+fn minimums(rt: HostRuntime) -> Result<(), Fail> {
+    let special = Special {
+        sink: SINK,
+        pool: POOL,
+    };
+    let view = holders(rt.alloc())?;
+    let mut work = Work::new(rt.alloc(), view, special, 0, 1);
+    work.begin();
+    assert!(rt; short(&mut work) == Some(None));
+    for (who, named) in [(VOTER, VOTER), (PAYER, PAYER), (RECEIVER, PAYER)] {
+        assert!(rt; set_balance(&mut work, who, 99_999));
+        assert!(rt; short(&mut work) == Some(Some(named)));
+    }
+    // What it had before the transaction is no change.
+    assert!(rt; set_balance(&mut work, PAYER, 2_500_000));
+    assert!(rt; short(&mut work) == Some(Some(RECEIVER)));
+    assert!(rt; set_balance(&mut work, RECEIVER, 0));
+    assert!(rt; set_balance(&mut work, VOTER, 100_000));
+    assert!(rt; short(&mut work) == Some(None));
+    // Only what changes in this transaction is tested, and sink and pool are not.
+    assert!(rt; set_balance(&mut work, VOTER, 1));
+    work.begin();
+    assert!(rt; short(&mut work) == Some(None));
+    assert!(rt; set_balance(&mut work, SINK, 1));
+    assert!(rt; set_balance(&mut work, POOL, 1));
+    assert!(rt; short(&mut work) == Some(None));
+    assert!(rt; set_balance(&mut work, VOTER, 2));
+    assert!(rt; short(&mut work) == Some(Some(VOTER)));
     Ok(())
 }

@@ -1,7 +1,7 @@
-use super::*;
 use al_base::Status;
 use al_msgpack::decode;
 use al_record::read_member;
+use al_rewards::{Count, RewardsState, Share, Totals, encode_totals, pending};
 use std::test::*;
 
 const fn share(status: Status, balance: u64, base: u64) -> Share {

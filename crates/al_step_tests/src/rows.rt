@@ -1,8 +1,8 @@
-use crate::{
+use al_base::{Address, AssetParams, Bytes, Key};
+use al_rows::{
     AccountRow, AppParams, AppRow, AssetRow, BoxRow, Holding, Local, MapView, Row, RowView, Stored,
     StoredView, copy_row,
 };
-use al_base::{Address, AssetParams, Bytes, Key};
 use std::alloc::{AllocError, Global};
 use std::collections::BTreeMap;
 use std::test::*;

@@ -1,0 +1,9 @@
+//! Tests of the step of a block and of what it stands on, over public calls.
+#![tactic(auto)]
+
+#[cfg(test)]
+mod moves;
+#[cfg(test)]
+mod rewards;
+#[cfg(test)]
+mod rows;
