@@ -16,9 +16,6 @@ mod quiet;
 mod sink;
 mod source;
 mod system;
-#[cfg(test)]
-mod tests;
-
 pub use account::{Special, Status};
 pub use address::{Address, Addresses, Hash};
 pub use asset::AssetParams;

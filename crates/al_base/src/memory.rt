@@ -1,5 +1,5 @@
 //! A source, a sink and a folder in memory, some of whose calls fail.
-ghost use Rattle.std.specs.Prelude.{◌≡◌, ◌++◌, ◌≤◌, ◌↔◌, length, min, Some, IfOk, IsErr, OnErr, OnOk, Contains, is_err, IsTrue};
+ghost use Rattle.std.specs.Prelude.{◌≡◌, ◌++◌, ◌+◌, ◌≤◌, ◌<◌, ◌↔◌, ◌⊎◌, length, vec_capacity, vec_len, min, Some, IfOk, IsErr, OnErr, OnOk, Contains, is_err, IsTrue};
 ghost use Rattle.al_base.specs.Causes.{HasCause, Puts, Takes};
 ghost use Rattle.al_base.specs.Folders.{file_of, HasReadCause, IsWithinLimit, Reads, Writes, is_failed};
 ghost use Rattle.std.specs.Option.{option_copied};
@@ -90,6 +90,8 @@ impl Sink for MemSink {
         ensures none { OnErr result (self.new.written.items ≡ self.old.written.items) }
         ensures plan { self.new.plan ≡ called (is_err result) self.old.plan }
         ensures fails { Contains self.old.plan.fails (counted self.old.plan.calls) → IsErr result }
+        // A call that is not planned to fail does so only where the room is too small.
+        ensures full { OnErr result (Contains self.old.plan.fails (counted self.old.plan.calls) ⊎ (vec_capacity self.old.written < vec_len self.old.written + length bytes.now)) }
     {
         self.plan.call()?;
         if self.written.extend_from_slice(bytes).is_err() {

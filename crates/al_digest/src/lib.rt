@@ -3,10 +3,7 @@
 
 mod base32;
 mod counting;
-mod hashing;
-#[cfg(test)]
-mod tests;
-mod texts;
+mod hashing;mod texts;
 
 pub use counting::Steps;
 pub use hashing::{Prefix, digest, node_digest};

@@ -24,6 +24,3 @@ pub use writing::{
     encode, write, write_all, write_bytes, write_entries, write_flag, write_list_head,
     write_map_head, write_number, write_string,
 };
-
-#[cfg(test)]
-mod tests;

@@ -36,6 +36,3 @@ pub use shape::{ANY_BYTES, COUNT, Column, HASH, Shape};
 pub use spell::{count_written, write_field, write_fields, write_inner, write_listed};
 pub use theorems::record_laws;
 pub use write::{Content, listed, put, put_list, put_map};
-
-#[cfg(test)]
-mod tests;

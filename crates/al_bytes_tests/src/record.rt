@@ -1,6 +1,10 @@
-use super::*;
+//! Tests of al_record: first faults, and what is written.
 use al_base::{Address, Bytes};
 use al_msgpack::{Val, decode, write};
+use al_record::{
+    ANY_BYTES, Column, Content, Fault, HASH, ReadError, Shape, addresses, check, count_written,
+    listed, write_field, write_inner, write_listed,
+};
 use std::test::*;
 
 const TABLE: [Column; 5] = [
@@ -67,6 +71,54 @@ fn written(rt: HostRuntime) -> Result<(), Fail> {
     let mut out = Vec::new(rt.alloc());
     write(&Val::Map(entries), &mut out)?;
     assert_eq!(rt; out.as_slice(), b"\x82\xa1c\xc3\xa1t\xa1x".as_slice());
+    Ok(())
+}
+
+const ALL: [Column; 9] = [
+    Column("a", Shape::Number),
+    Column("b", Shape::Flag),
+    Column("c", Shape::Text),
+    Column("d", Shape::Text),
+    Column("e", ANY_BYTES),
+    Column("f", ANY_BYTES),
+    Column("g", HASH),
+    Column("h", Shape::Array { len: 64 }),
+    Column("i", Shape::Addresses { most: 2 }),
+];
+
+// Each kind of content straight into the output, and none of the zero ones.
+#[test]
+fn written_straight(rt: HostRuntime) -> Result<(), Fail> {
+    let text = Bytes::of(rt.alloc(), b"yz")?;
+    let contents = [
+        Content::Number(200),
+        Content::Flag(true),
+        Content::Word("x"),
+        Content::Text(&text),
+        Content::Bytes(&text),
+        Content::Slice(b"q"),
+        Content::Array(&[7; 32]),
+        Content::Wide(&[0; 64]),
+        Content::Addresses(&[]),
+    ];
+    let mut out = Vec::new(rt.alloc());
+    write_listed(&ALL, &contents, &mut out)?;
+    let want =
+        b"\x87\xa1a\xcc\xc8\xa1b\xc3\xa1c\xa1x\xa1d\xa2yz\xa1e\xc4\x02yz\xa1f\xc4\x01q\xa1g\xc4\x20\x07\x07\x07\x07\x07\x07\x07\x07\x07\x07\x07\x07\x07\x07\x07\x07\x07\x07\x07\x07\x07\x07\x07\x07\x07\x07\x07\x07\x07\x07\x07\x07";
+    assert_eq!(rt; out.as_slice(), want.as_slice());
+    assert_eq!(rt; count_written(&contents), 7);
+    Ok(())
+}
+
+// A field and an inner record, each left out where it is zero.
+#[test]
+fn written_apart(rt: HostRuntime) -> Result<(), Fail> {
+    let mut out = Vec::new(rt.alloc());
+    write_field("n", &Content::Number(5), &mut out)?;
+    write_field("o", &Content::Number(0), &mut out)?;
+    write_inner("p", &ALL[..1], &[Content::Number(1)], &mut out)?;
+    write_inner("q", &ALL[..1], &[Content::Number(0)], &mut out)?;
+    assert_eq!(rt; out.as_slice(), b"\xa1n\x05\xa1p\x81\xa1a\x01".as_slice());
     Ok(())
 }
 

@@ -1,9 +1,13 @@
-use crate::{
+//! Tests of al_base: keys, lists, sources, sinks and folders.
+use crate::disk::{At, Disk, OnDisk};
+use al_base::{
     Address, Addresses, BoxName, Bytes, DirFolder, Failed, Files, Folder, FolderRefusal, Key,
     MemFolder, MemSink, MemSource, NamedFile, QuietFolder, QuietSink, QuietSource, ReadSource,
     Sink, Source, WriteSink,
 };
 use std::alloc::{AllocError, Global};
+use std::fmt::Debug;
+use std::io::ErrorKind;
 use std::process::Abort;
 use std::test::*;
 
@@ -130,6 +134,89 @@ fn folders(rt: HostRuntime) -> Result<(), Fail> {
         DirFolder::new(rt).read(alloc, "there is no such file", 2),
         Ok(None)
     );
+    Ok(())
+}
+
+// What a folder shows, with its count of faults.
+fn shown<R: Debug>(alloc: Global, folder: &DirFolder<R>) -> Result<String, AllocError> {
+    format!(in alloc; "{folder:?}")
+}
+
+// A file of three bytes, which the disk gives two bytes at a time.
+#[test]
+fn files_of_a_folder(rt: HostRuntime) -> Result<(), Fail> {
+    let alloc = rt.alloc();
+    let disk = Disk::new(b"xyz", None);
+    let mut folder = DirFolder::new(OnDisk(&disk));
+    let long = |limit: usize| Err(FolderRefusal::TooLong { limit });
+    let reads = [
+        (3, Ok(Some(3))),
+        (usize::MAX, Ok(Some(3))),
+        (2, long(2)),
+        (0, long(0)),
+    ];
+    for (limit, want) in reads {
+        assert_eq!(rt; file_len(&mut folder, alloc, "a", limit), want, "{limit}");
+    }
+    let read = folder.read(alloc, "a", 3)?;
+    assert_eq!(rt; read, Some(Bytes::of(alloc, b"xyz")?));
+    // A shorter file in place of it, and one that is longer.
+    for bytes in [b"pq".as_slice(), b"stuvw".as_slice(), b"".as_slice()] {
+        assert_eq!(rt; folder.write("a", bytes), Ok(()));
+        assert_eq!(rt; folder.read(alloc, "a", 5)?, Some(Bytes::of(alloc, bytes)?));
+    }
+    assert_eq!(rt;
+        shown(alloc, &folder)?.as_str(),
+        "DirFolder { rt: disk, faults: 0 }"
+    );
+    Ok(())
+}
+
+// Each error of the system but a missing file and want of memory is a fault, which is counted once.
+#[test]
+fn errors_of_a_folder(rt: HostRuntime) -> Result<(), Fail> {
+    let alloc = rt.alloc();
+    let failed = Err(FolderRefusal::Failed);
+    let reads = [
+        (At::Open, ErrorKind::NotFound, Ok(None), 0),
+        (
+            At::Open,
+            ErrorKind::OutOfMemory,
+            Err(FolderRefusal::Memory),
+            0,
+        ),
+        (At::Open, ErrorKind::PermissionDenied, failed, 1),
+        (At::Byte(0), ErrorKind::Other, failed, 1),
+        (At::Byte(2), ErrorKind::UnexpectedEof, failed, 1),
+        (
+            At::Byte(2),
+            ErrorKind::OutOfMemory,
+            Err(FolderRefusal::Memory),
+            0,
+        ),
+    ];
+    for (at, kind, want, faults) in reads {
+        let disk = Disk::new(b"xyz", Some((at, kind)));
+        let mut folder = DirFolder::new(OnDisk(&disk));
+        assert_eq!(rt; file_len(&mut folder, alloc, "a", 3), want, "{kind:?}");
+        let text = format!(in alloc; "DirFolder {{ rt: disk, faults: {faults} }}")?;
+        assert_eq!(rt; shown(alloc, &folder)?.as_str(), text.as_str());
+    }
+    let writes = [
+        (At::Open, ErrorKind::PermissionDenied),
+        (At::Open, ErrorKind::OutOfMemory),
+        (At::Byte(0), ErrorKind::StorageFull),
+        (At::Byte(2), ErrorKind::StorageFull),
+    ];
+    for (at, kind) in writes {
+        let disk = Disk::new(b"", Some((at, kind)));
+        let mut folder = DirFolder::new(OnDisk(&disk));
+        assert_eq!(rt; folder.write("a", b"xyz"), Err(Failed), "{kind:?}");
+        assert_eq!(rt;
+            shown(alloc, &folder)?.as_str(),
+            "DirFolder { rt: disk, faults: 1 }"
+        );
+    }
     Ok(())
 }
 

@@ -1,6 +1,7 @@
+//! Tests of al_msgpack: values, faults and their places.
 ghost use Rattle.std.specs.Prelude.{◌<◌, ◌^◌, length};
 
-use super::*;
+use al_msgpack::{DecodeFault, decode, encode, format_laws, write};
 use std::alloc::{AllocError, Global};
 use std::test::*;
 

@@ -1,10 +1,11 @@
+//! Tests of al_digest: texts of addresses and hashes, and digests.
 ghost use Rattle.std.specs.Prelude.{◌≡◌, ◌<◌};
 
-use crate::{
+use al_base::{Address, Hash};
+use al_digest::{
     Prefix, Steps, TextFault, address_text, digest, hash_text, node_digest, parse_address,
     parse_hash,
 };
-use al_base::{Address, Hash};
 use std::marker::Brand;
 use std::sync::ledger::{Blank, Ledger};
 use std::test::Fail;
