@@ -1,9 +1,11 @@
-//! Tests of bytes and records: the layer of al_base, al_msgpack, al_digest and al_record. They stand
-//! in a crate of their own, since a crate with tests is proved twice.
+//! Tests of bytes and records: the layer from al_base to al_block. They stand in a crate of their own,
+//! since a crate with tests is proved twice.
 #![tactic(auto)]
 
 #[cfg(test)]
 mod base;
+#[cfg(test)]
+mod block;
 #[cfg(test)]
 mod digest;
 #[cfg(test)]
@@ -12,3 +14,5 @@ mod disk;
 mod msgpack;
 #[cfg(test)]
 mod record;
+#[cfg(test)]
+mod txn;

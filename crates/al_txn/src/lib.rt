@@ -33,6 +33,3 @@ pub use item::{ItemFault, decode_item};
 pub use laws::txn_laws;
 pub use record::{read_txn, txn_entries};
 pub use txn::{Item, Items, Txn};
-
-#[cfg(test)]
-mod tests;
