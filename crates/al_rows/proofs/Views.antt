@@ -1,5 +1,5 @@
 -- What the map that a BTreeMap's entries make has under a key, and who created what in it.
-use Rattle.std.proofs.Common.{◌≡◌, ◌∙◌, refl, sym, ap, subst, T, List, Bool, true, false, ◌&&◌, is_lt, is_eq, Ordering, Less, Equal, Greater, [], ◌∷◌, map, cond, Option, Some, None, IfSome, All, option_map, ℕ}
+use Rattle.std.proofs.Common.{◌≡◌, ◌∙◌, refl, sym, ap, subst, T, List, Bool, true, false, ◌&&◌, is_lt, is_eq, Ordering, Less, Equal, Greater, [], ◌∷◌, map, cond, Option, Some, None, IfSome, All, option_map, ℕ, Result, Ok, Err, IfOk, OnOk}
 use Rattle.std.specs.Option.{option_or}
 use Rattle.std.specs.Map.{lookup}
 use Rattle.std.specs.BTreeMap.{is_at}
@@ -15,7 +15,9 @@ use Rattle.al_base.specs.Keys.{key_cmp}
 use Rattle.al_rows.specs.declared.row.Row.{Row}
 use Rattle.al_rows.specs.declared.stored.Stored.{Stored}
 use Rattle.al_rows.specs.Finite.{first_some}
-use Rattle.al_rows.specs.Rows.{bare, creator_at, creator_of, InRange}
+use Rattle.al_base.specs.declared.address.Address.{Address}
+use Rattle.std.specs.Ordering.{nat_cmp}
+use Rattle.al_rows.specs.Rows.{AreCreators, bare, creator_at, creator_of, InRange}
 use Rattle.al_rows.proofs.Maps.{find-lookup, get-map_entries, entries-map_entries}
 use Rattle.al_rows.proofs.Keys.{keys_total, exact_keys}
 
@@ -80,3 +82,25 @@ ranged_row (Some s) q h = h
 
 pub ranged-bare : (rows : BTreeMap Key Stored) (q : Key) → All (λ e. InRange e.0 e.1.row) rows.entries → IfSome (option_map (λ (s : Stored). s.row) (tree.get key_cmp rows q)) (InRange q)
 ranged-bare rows q h = ranged_row (tree.get key_cmp rows q) q (ranged-get (λ k (s : Stored). InRange k s.row) rows.entries q h)
+
+-- ---- an index of creators
+
+or_or : {A : Type 0} (a b c : Option A) → option_or (option_or a b) c ≡ option_or a (option_or b c)
+or_or None b c = refl
+or_or (Some x) b c = refl
+
+-- one more row is noted
+pub noted : (es all : List (Key × Stored)) (e : Key × Stored) (id : ℕ) (old new : Option Address) → new ≡ option_or old (creator_at id e.0 e.1.row)
+    → option_or old (first_some (λ e. creator_at id e.0 e.1.row) (e ∷ es)) ≡ first_some (λ e. creator_at id e.0 e.1.row) all
+    → option_or new (first_some (λ e. creator_at id e.0 e.1.row) es) ≡ first_some (λ e. creator_at id e.0 e.1.row) all
+noted es all e id old new is before =
+    ap (λ o. option_or o (first_some (λ e. creator_at id e.0 e.1.row) es)) is
+    ∙ or_or old (creator_at id e.0 e.1.row) (first_some (λ e. creator_at id e.0 e.1.row) es)
+    ∙ before
+
+-- an index of the first creators is one of the creators
+pub are-creators : {E : Type 0} (r : Result (BTreeMap ℕ Address) E) (es : List (Key × Stored)) → IfOk r (λ c. (id : ℕ) → tree.get nat_cmp c id ≡ first_some (λ e. creator_at id e.0 e.1.row) es)
+    → OnOk r (IsStrictlySortedBy key_cmp (map (λ e. e.0) es)) → IfOk r (AreCreators (bare (from_entries es)))
+unfolding AreCreators
+are-creators (Ok c) es first ordered = λ id. first id ∙ creator-bare es id ordered
+are-creators (Err e) es first ordered = tt

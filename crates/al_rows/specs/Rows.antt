@@ -2,8 +2,11 @@
 use Rattle.std.specs.Prelude.{◌≡◌, ℕ, ◌+◌, ◌*◌, ◌^◌, ◌<◌, ◌≤◌, Bool, true, false, if◌then◌else◌, ◌&&◌, nat_eq, ⊤, List, [], ◌∷◌, replicate, length, is_none, is_some}
 use Rattle.std.specs.declared.option.Option.{Option}
 use Rattle.std.specs.declared.option.Option.TheVariants.{None, Some}
+use Rattle.std.specs.BTreeMap.{BTreeMap}
+use Rattle.std.specs.BTreeMap as tree
 use Rattle.std.specs.Cmp.Lexicographic.{pointwise}
 use Rattle.std.specs.FinMap.{FinMap, get, entries}
+use Rattle.std.specs.Ordering.{nat_cmp}
 use Rattle.al_base.specs.declared.account.Status.{Status}
 use Rattle.al_base.specs.declared.account.Status.TheVariants.{Offline, Online, NotParticipating}
 use Rattle.al_base.specs.declared.address.Address.{Address}
@@ -214,3 +217,7 @@ creator_at id (key.Box app name) row = None
 -- the creator of an asset or an application: the least address whose row of it has params
 unfoldable pub creator_of : RowMap → ℕ → Option Address
 creator_of m id = first_some (λ e. creator_at id e.0 e.1) (entries m)
+
+-- an index of the creators of all ids
+unfoldable pub AreCreators : RowMap → BTreeMap ℕ Address → Type 0
+AreCreators m creators = (id : ℕ) → tree.get nat_cmp creators id ≡ creator_of m id

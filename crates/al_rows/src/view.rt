@@ -6,7 +6,8 @@ ghost use Rattle.al_base.specs.Causes.{Rose};
 ghost use Rattle.al_base.specs.Keys.{key_cmp};
 ghost use Rattle.std.specs.BTreeMap.{IsOrdered};
 ghost use Rattle.al_rows.specs.Finite.{first_some};
-ghost use Rattle.al_rows.specs.Rows.{InRange, bare, creator_at, creator_of};
+ghost use Rattle.al_rows.specs.Rows.{AreCreators, InRange, bare, creator_at, creator_of};
+ghost use Rattle.std.specs.Ordering.{nat_cmp};
 
 use crate::{Row, Stored};
 use al_base::{Address, Key};
@@ -168,13 +169,15 @@ fn creator_in(rows: &BTreeMap<Key, Row>, id: u64) -> Option<Address>
 pub struct StoredView<'a> {
     alloc: Global,
     rows: &'a BTreeMap<Key, Stored>,
+    creators: Option<&'a BTreeMap<u64, Address>>,
 }
 
 impl<'a> Model for StoredView<'a> {
     ghost use Rattle.std.specs.Prelude.{All};
     ghost use Rattle.std.specs.FinMap.{from_entries};
     ghost use Rattle.std.specs.FinMap as map;
-    ghost use Rattle.al_rows.specs.Rows.{RowMap, InRange, bare};
+    ghost use Rattle.al_rows.specs.Rows.{AreCreators, RowMap, InRange, bare};
+    ghost use Rattle.std.specs.Prelude.{IfSome};
     ghost use Rattle.al_base.specs.contracts.key.Key as key;
     ghost use Rattle.al_rows.specs.contracts.row.Row as row;
 
@@ -184,7 +187,7 @@ impl<'a> Model for StoredView<'a> {
 
     ghost view = { λ v. bare (from_entries v.rows.now.entries) };
 
-    ghost invariant = { λ v. All (λ e. InRange e.0 e.1.row) v.rows.now.entries };
+    ghost invariant = { λ v. All (λ e. InRange e.0 e.1.row) v.rows.now.entries × IfSome v.creators (λ c. AreCreators (bare (from_entries v.rows.now.entries)) c.now) };
 }
 
 impl<'a> StoredView<'a> {
@@ -193,7 +196,28 @@ impl<'a> StoredView<'a> {
         requires { All (λ e. InRange e.0 e.1.row) rows.now.entries }
         ensures { result ≡ bare (from_entries rows.now.entries) }
     {
-        StoredView { alloc, rows }
+        StoredView {
+            alloc,
+            rows,
+            creators: None,
+        }
+    }
+
+    /// The same with an index of their creators, in which they are looked up.
+    pub fn indexed(
+        alloc: Global,
+        rows: &'a BTreeMap<Key, Stored>,
+        creators: &'a BTreeMap<u64, Address>,
+    ) -> StoredView<'a>
+        requires rows { All (λ e. InRange e.0 e.1.row) rows.now.entries }
+        requires creators { AreCreators (bare (from_entries rows.now.entries)) creators.now }
+        ensures { result ≡ bare (from_entries rows.now.entries) }
+    {
+        StoredView {
+            alloc,
+            rows,
+            creators: Some(creators),
+        }
     }
 }
 
@@ -218,7 +242,7 @@ impl<'a> RowView for StoredView<'a> {
     }
 
     fn creator(&mut self, id: u64) -> Result<Option<Address>, ViewFault<Never>> {
-        Ok(creator_stored(self.rows, id))
+        Ok(creator_viewed(self.rows, self.creators, id))
     }
 }
 
@@ -234,6 +258,28 @@ fn copy_stored(
         None => Ok(None),
         Some(stored) => Ok(Some(stored.row.copy(alloc)?)),
     }
+}
+
+// The creator of an asset or an application, by the index where there is one.
+fn creator_viewed(
+    rows: &BTreeMap<Key, Stored>,
+    creators: Option<&BTreeMap<u64, Address>>,
+    id: u64,
+) -> Option<Address>
+    requires { IfSome creators (λ c. AreCreators (bare (from_entries rows.now.entries)) c.now) }
+    ensures { result ≡ creator_of (bare (from_entries rows.now.entries)) id }
+{
+    match creators {
+        Some(creators) => creator_indexed(creators, id),
+        None => creator_stored(rows, id),
+    }
+}
+
+// The creator of an asset or an application in an index.
+fn creator_indexed(creators: &BTreeMap<u64, Address>, id: u64) -> Option<Address>
+    ensures { result ≡ tree.get nat_cmp creators.now id }
+{
+    creators.get(&id).copied()
 }
 
 // The creator of an asset or an application among rows.

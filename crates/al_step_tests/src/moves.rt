@@ -375,7 +375,24 @@ fn short(work: &mut Work<MapView>) -> Option<Option<Address>> {
     }
 }
 
-// The least account below its minimum is named, of those that differ from the transaction's start.
+/// Balances that are set, each in a transaction of its own or in the same: whether one begins, whose
+/// balance, how many microAlgos, and the account that the test of minimum balances names then: the
+/// least below its minimum, of those that differ from the transaction's start.
+const MINIMUMS: [(bool, Address, u64, Option<Address>); 10] = [
+    (true, VOTER, 99_999, Some(VOTER)),
+    (false, PAYER, 99_999, Some(PAYER)),
+    (false, RECEIVER, 99_999, Some(PAYER)),
+    // What it had before the transaction is no change, and no row has no minimum.
+    (false, PAYER, 2_500_000, Some(RECEIVER)),
+    (false, RECEIVER, 0, Some(VOTER)),
+    (false, VOTER, 1, Some(VOTER)),
+    // Only what changes in this transaction is tested, and sink and pool are not.
+    (true, SINK, 1, None),
+    (false, POOL, 1, None),
+    (false, VOTER, 2, Some(VOTER)),
+    (false, VOTER, 100_000, None),
+];
+
 #[test]
 fn minimums(rt: HostRuntime) -> Result<(), Fail> {
     let special = Special {
@@ -384,26 +401,12 @@ fn minimums(rt: HostRuntime) -> Result<(), Fail> {
     };
     let view = holders(rt.alloc())?;
     let mut work = Work::new(rt.alloc(), view, special, 0, 1);
-    work.begin();
-    assert!(rt; short(&mut work) == Some(None));
-    for (who, named) in [(VOTER, VOTER), (PAYER, PAYER), (RECEIVER, PAYER)] {
-        assert!(rt; set_balance(&mut work, who, 99_999));
-        assert!(rt; short(&mut work) == Some(Some(named)));
+    for (begins, who, balance, named) in MINIMUMS {
+        if begins {
+            work.begin();
+        }
+        assert!(rt; set_balance(&mut work, who, balance));
+        assert!(rt; short(&mut work) == Some(named));
     }
-    // What it had before the transaction is no change.
-    assert!(rt; set_balance(&mut work, PAYER, 2_500_000));
-    assert!(rt; short(&mut work) == Some(Some(RECEIVER)));
-    assert!(rt; set_balance(&mut work, RECEIVER, 0));
-    assert!(rt; set_balance(&mut work, VOTER, 100_000));
-    assert!(rt; short(&mut work) == Some(None));
-    // Only what changes in this transaction is tested, and sink and pool are not.
-    assert!(rt; set_balance(&mut work, VOTER, 1));
-    work.begin();
-    assert!(rt; short(&mut work) == Some(None));
-    assert!(rt; set_balance(&mut work, SINK, 1));
-    assert!(rt; set_balance(&mut work, POOL, 1));
-    assert!(rt; short(&mut work) == Some(None));
-    assert!(rt; set_balance(&mut work, VOTER, 2));
-    assert!(rt; short(&mut work) == Some(Some(VOTER)));
     Ok(())
 }

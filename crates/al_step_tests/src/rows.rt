@@ -1,7 +1,7 @@
 use al_base::{Address, AssetParams, Bytes, Key};
 use al_rows::{
     AccountRow, AppParams, AppRow, AssetRow, BoxRow, Holding, Local, MapView, Row, RowView, Stored,
-    StoredView, copy_row,
+    StoredView, copy_row, creators_of,
 };
 use std::alloc::{AllocError, Global};
 use std::collections::BTreeMap;
@@ -90,17 +90,45 @@ fn copies(rt: HostRuntime) -> Result<(), Fail> {
     Ok(())
 }
 
+// Whether a view shows a row with params under a key, none where it shows no row.
+fn has_params<V: RowView>(view: &mut V, key: &Key) -> Option<bool> {
+    match view.row(key) {
+        Ok(Some(row)) => Some(row.has_params()),
+        Ok(None) => None,
+        Err(_) => None,
+    }
+}
+
+// Whether a view shows that there is no row under a key.
+fn has_none<V: RowView>(view: &mut V, key: &Key) -> bool {
+    match view.row(key) {
+        Ok(row) => row.is_none(),
+        Err(_) => false,
+    }
+}
+
+// The creator that a view shows, none where it fails.
+fn creator<V: RowView>(view: &mut V, id: u64) -> Option<Option<Address>> {
+    match view.creator(id) {
+        Ok(who) => Some(who),
+        Err(_) => None,
+    }
+}
+
 // Whether a row with params is shown under the key of an asset, its creator by its id, and nothing
 // else.
 fn shows<V: RowView>(view: &mut V) -> bool {
-    let creator = Address([1; 32]);
-    let row = view.row(&Key::Resource(creator, 5)).ok();
-    let is_shown = row.is_some_and(|row| row.is_some_and(|row| row.has_params()));
-    let none = view.row(&Key::Account(creator)).ok();
-    is_shown
-        && none.is_some_and(|none| none.is_none())
-        && view.creator(5).ok() == Some(Some(creator))
-        && view.creator(6).ok() == Some(None)
+    let who = Address([1; 32]);
+    if has_params(view, &Key::Resource(who, 5)) != Some(true) {
+        return false;
+    }
+    if !has_none(view, &Key::Account(who)) {
+        return false;
+    }
+    if creator(view, 5) != Some(Some(who)) {
+        return false;
+    }
+    creator(view, 6) == Some(None)
 }
 
 #[test]
@@ -120,6 +148,8 @@ fn views(rt: HostRuntime) -> Result<(), Fail> {
         },
     )?;
     assert!(rt; shows(&mut StoredView::new(alloc, &stored)));
+    let creators = creators_of(alloc, &stored)?;
+    assert!(rt; shows(&mut StoredView::indexed(alloc, &stored, &creators)));
     let mut rows = BTreeMap::new(alloc);
     rows.insert(key, row)?;
     assert!(rt; shows(&mut MapView::new(alloc, rows)));

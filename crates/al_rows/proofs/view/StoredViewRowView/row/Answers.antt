@@ -12,6 +12,6 @@ returns-clause-value c = λ t. elim c.match-copy_stored.branch [
 
 pub returns-clause-range : goal.returns-clause-range
 returns-clause-range c = elim c.match-copy_stored.branch [
-  | in-Ok w ↦ rw (w.result-is, w.in-Ok.ensures) (ranged-bare c.self.inside.rows.now c.args.key.now c.self.invariant)
+  | in-Ok w ↦ rw (w.result-is, w.in-Ok.ensures) (ranged-bare c.self.inside.rows.now c.args.key.now c.self.invariant.0)
   | in-Err w ↦ rw w.result-is tt
 ]
