@@ -1,7 +1,7 @@
 use Rattle.std.proofs.Common.{rules, ◌≡◌, Some, sym, subst}
 use Rattle.al_session.specs.Sessions.{Holds}
 use Rattle.al_session.proofs.RunLemmas.{read_holds, served_runs, shown_digit}
-use Rattle.al_session.proofs.run.run.Goals as goal
+use Rattle.al_session.proofs.command.run.Goals as goal
 
 pub returns-in-Ok-open-clause-runs : goal.returns-in-Ok-open-clause-runs
 returns-in-Ok-open-clause-runs g c =
