@@ -18,5 +18,7 @@ pub use answer::{Answer, ErrorName, More};
 pub use asking::{Asked, Request};
 pub use fields::Named;
 pub use head::{BodySize, Head, HeadRead, MOST_BODY, MOST_HEAD, read_head};
-pub use laws::{cuts_agree, nothing_left, one_cut, one_meaning, one_request};
+pub use laws::{
+    cuts_agree, nothing_left, one_cut, one_meaning, one_request, unfinished_is_not_refused,
+};
 pub use texts::{answer_bytes, memory_text, not_built_text};
