@@ -3,13 +3,9 @@
 
 mod account;
 mod answer;
-#[cfg(test)]
-mod answer_tests;
 mod asking;
 mod fields;
 mod head;
-#[cfg(test)]
-mod head_tests;
 mod laws;
 mod members;
 mod texts;

@@ -1,13 +1,6 @@
 //! The ledger's program: its words, and standard input, output and the files of its directory.
 #![tactic(auto)]
 
-#[cfg(test)]
-mod chain_tests;
-#[cfg(test)]
-mod reward_tests;
-#[cfg(test)]
-mod tests;
-
 use al_base::{DirFolder, ReadSource, WriteSink};
 use al_session::{Words, run};
 use std::alloc::{AllocError, Global};
