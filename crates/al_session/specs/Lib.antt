@@ -1,3 +1,4 @@
 pub mod Connection
+pub mod Laws
 pub mod Taking
 pub mod Sessions

@@ -3,9 +3,11 @@
 
 mod command;
 mod inbox;
+mod laws;
 mod link;
 mod words;
 
 pub use command::{Status, run};
+pub use laws::one_reply;
 pub use link::{Caller, Ended, serve_link};
 pub use words::Words;
