@@ -2,3 +2,4 @@ pub mod Connection
 pub mod Laws
 pub mod Taking
 pub mod Sessions
+pub mod Entering

@@ -7,7 +7,7 @@ mod laws;
 mod link;
 mod words;
 
-pub use command::{Status, run};
+pub use command::{Status, enter, run};
 pub use laws::one_reply;
 pub use link::{Caller, Ended, serve_link};
 pub use words::Words;
