@@ -8,6 +8,7 @@ mod fields;
 mod head;
 mod laws;
 mod members;
+mod refusing;
 mod texts;
 
 pub use answer::{Answer, ErrorName, More};
