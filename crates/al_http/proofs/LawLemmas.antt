@@ -1,14 +1,14 @@
 -- The one way to cut a stream into requests.
-use Rattle.std.proofs.Common.{◌≡◌, ◌⊎◌, inl, inr, ℕ, List, [], ◌∷◌, ◌++◌, length, take, drop, refl, sym, ap, ◌∙◌, arith, append_assoc, length-append, All}
+use Rattle.std.proofs.Common.{subst, ◌≡◌, ◌⊎◌, inl, inr, ℕ, List, [], ◌∷◌, ◌++◌, length, take, drop, refl, sym, ap, ◌∙◌, arith, append_assoc, length-append, All}
 use Rattle.std.proofs.lemmas.List.{append-nil, take_at, drop_at}
 use Rattle.std.proofs.lemmas.List.Elements.{All-head, All-tail}
 use Rattle.std.specs.List.{flat_map}
 use mathlib.Core.List.{IsPrefix}
-use Rattle.httparse.specs.Grammar.{ReadsRequest, print_request}
-use Rattle.httparse.proofs.GrammarLemmas.{request_unique}
+use Rattle.httparse.specs.Grammar.{RequestHead, ReadsRequest, print_request}
+use Rattle.httparse.proofs.GrammarLemmas.{request_unique, ReadsRequest-append}
 use Rattle.al_http.specs.declared.head.BodySize.TheVariants.{Length}
 use Rattle.al_http.specs.Fields.{fields_of, size_of}
-use Rattle.al_http.specs.Requests.{Message, IsRequest, spell, stream_of, IsRest}
+use Rattle.al_http.specs.Requests.{Message, IsRequest, IsBuilt, IsUnfinished, spell, stream_of, IsRest}
 
 -- the head and the rest of a request
 pub request_reads : (buf : List ℕ) (r : Message) (more : List ℕ) → IsRequest r → buf ≡ spell r ++ more → ReadsRequest buf r.head (r.body ++ more)
@@ -57,3 +57,9 @@ one_cut (a ∷ xs) (b ∷ ys) x y p q f g is =
     let one = one_request a b (stream_of xs x) (stream_of ys y) (All-head IsRequest a xs p) (All-head IsRequest b ys q) (sym (stream_cons a xs x) ∙ is ∙ stream_cons b ys y) in
     let more = one_cut xs ys x y (All-tail IsRequest a xs p) (All-tail IsRequest b ys q) f g one.1 in
     (ap (λ r. r ∷ xs) one.0 ∙ ap (λ rs. b ∷ rs) more.0, more.1)
+
+pub unfinished_is_not_refused : (rest behind : List ℕ) (h : RequestHead) → IsUnfinished rest → ReadsRequest rest h behind → (IsBuilt h → ⊥) → ⊥
+unfinished_is_not_refused rest behind h (inl (more, m, some, valid, is)) reads not =
+    let one = request_unique (rest ++ more) m.head h (m.body ++ []) (behind ++ more) (request_reads (rest ++ more) m [] valid (is ∙ sym (append-nil (spell m)))) (ReadsRequest-append rest h behind more reads) in
+    not (subst IsBuilt one.0 valid.built)
+unfinished_is_not_refused rest behind h (inr part) reads not = part.none h behind reads

@@ -203,6 +203,43 @@ rest_of body = codes "content-length: " ++ decimal (length body) ++ line_end ++ 
 unfoldable pub answer_text : Answer → List ℕ
 answer_text a = head_of (status_of a) ++ rest_of (compact_text (body_of a))
 
+-- the status of a refusal, by its name
+abbrev pub error_status : ErrorName → ℕ
+error_status errors.BadHead = 400
+error_status errors.BadLength = 400
+error_status errors.Coding = 501
+error_status errors.TooLarge = 413
+error_status errors.NoRoute = 404
+error_status errors.Method = 405
+error_status errors.BadAddress = 400
+error_status errors.BadId = 400
+error_status errors.BadBox = 400
+error_status errors.BadQuery = 400
+error_status errors.Truncated = 400
+error_status errors.Malformed = 400
+error_status errors.Trailing = 400
+error_status errors.Field = 400
+error_status errors.Range = 400
+error_status errors.NoRow = 404
+error_status errors.TooNew = 404
+error_status errors.WrongRound = 409
+error_status errors.Fork = 409
+error_status errors.WrongPrev = 409
+error_status errors.BelowFloor = 410
+error_status errors.BelowLookback = 410
+error_status errors.Broken = 422
+error_status errors.Header = 422
+error_status errors.PoolShort = 422
+error_status errors.Expired = 422
+error_status errors.KeeperFault = 503
+error_status errors.BlockFault = 503
+error_status errors.Memory = 507
+error_status errors.NotBuilt = 501
+
+-- the refusal of this name, with what it shows
+abbrev pub refusal : ErrorName → More → Answer
+refusal error more = answers.Refused (error_status error) error more
+
 -- there is no memory
 abbrev pub memory_answer : Answer
 memory_answer = answers.Refused 507 errors.Memory nothing

@@ -3,7 +3,8 @@ use Rattle.std.specs.Prelude.{◌≡◌, ◌⊎◌, ℕ, List, ◌++◌, All}
 use mathlib.Core.List.{IsPrefix}
 use Rattle.al_http.specs.declared.asking.Request.{Request}
 use Rattle.al_http.specs.Asks.{Asks}
-use Rattle.al_http.specs.Requests.{Message, IsRequest, spell, stream_of, IsRest}
+use Rattle.httparse.specs.Grammar.{RequestHead, ReadsRequest}
+use Rattle.al_http.specs.Requests.{Message, IsRequest, IsBuilt, IsUnfinished, spell, stream_of, IsRest}
 
 -- no request begins another
 abbrev pub OneRequest : Type 0
@@ -24,3 +25,7 @@ OneCut = (xs ys : List Message) (x y : List ℕ) → All IsRequest xs → All Is
 -- a method and target ask for one thing
 abbrev pub OneMeaning : Type 0
 OneMeaning = (method target : List ℕ) (p q : Request) → Asks method target p → Asks method target q → p ≡ q
+
+-- a rest that may still become a request begins with no head that is not built
+abbrev pub UnfinishedIsNotRefused : Type 0
+UnfinishedIsNotRefused = (rest behind : List ℕ) (h : RequestHead) → IsUnfinished rest → ReadsRequest rest h behind → (IsBuilt h → ⊥) → ⊥

@@ -1,5 +1,5 @@
 // Laws of requests on a stream.
-ghost use Rattle.al_http.specs.Laws.{OneRequest, CutsAgree, NothingLeft, OneCut, OneMeaning};
+ghost use Rattle.al_http.specs.Laws.{OneRequest, CutsAgree, NothingLeft, OneCut, OneMeaning, UnfinishedIsNotRefused};
 
 /// No request begins another.
 pub fn one_request()
@@ -24,4 +24,9 @@ pub fn one_cut()
 /// A method and a target ask for one thing.
 pub fn one_meaning()
     ensures { OneMeaning }
+{}
+
+/// A rest that is cut short begins with no head that is refused whole.
+pub fn unfinished_is_not_refused()
+    ensures { UnfinishedIsNotRefused }
 {}

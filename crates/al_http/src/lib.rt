@@ -3,20 +3,19 @@
 
 mod account;
 mod answer;
-#[cfg(test)]
-mod answer_tests;
 mod asking;
 mod fields;
 mod head;
-#[cfg(test)]
-mod head_tests;
 mod laws;
 mod members;
+mod refusing;
 mod texts;
 
 pub use answer::{Answer, ErrorName, More};
 pub use asking::{Asked, Request};
 pub use fields::Named;
 pub use head::{BodySize, Head, HeadRead, MOST_BODY, MOST_HEAD, read_head};
-pub use laws::{cuts_agree, nothing_left, one_cut, one_meaning, one_request};
+pub use laws::{
+    cuts_agree, nothing_left, one_cut, one_meaning, one_request, unfinished_is_not_refused,
+};
 pub use texts::{answer_bytes, memory_text, not_built_text};

@@ -1,3 +1,4 @@
+pub mod ReplyLemmas
 pub mod TakingLemmas
 pub mod ServeLemmas
 pub mod RunLemmas

@@ -1,5 +1,5 @@
 -- A run of the program that comes to serving.
-use Rattle.std.proofs.Common.{◌≡◌, ℕ, List, sym, subst, inr, Option, Some, None, Ok, Err}
+use Rattle.std.proofs.Common.{◌≤◌, length, ◌≡◌, ℕ, List, sym, subst, inr, Option, Some, None, Ok, Err}
 use Rattle.al_base.specs.Folders.{FileMap, Reads}
 use Rattle.al_base.specs.Causes.{Rose}
 use Rattle.al_session.specs.declared.link.Ended.{Ended}
@@ -12,7 +12,7 @@ use Rattle.al_session.specs.Connection.{Serves}
 use Rattle.al_states.specs.Held.{Held}
 use Rattle.al_states.specs.Keeping.{IsStates, held}
 use Rattle.al_states.specs.Opening.{Opens}
-use Rattle.al_session.specs.Sessions.{Outside, Holds, IsServed, IsDigit, RunsOf, Runs, session_file, status_of}
+use Rattle.al_session.specs.Sessions.{Outside, Holds, most_genesis, IsServed, IsDigit, RunsOf, Runs, session_file, status_of}
 use Rattle.al_states.proofs.KeepLemmas.{states_valid}
 use Rattle.al_states.proofs.SoundLemmas.{states_money}
 
@@ -22,12 +22,13 @@ read_holds None now name limit found x = tt
 read_holds (Some before) None name limit found x = absurd x
 read_holds (Some before) (Some now) name limit found x = sym x.1
 
-pub served_runs : (words : List (List ℕ)) (name file : List ℕ) (before after : Outside) (n : ℕ) (s t : States) (e : Ended) → Some name ≡ session_file words → Holds before.files name (Some file) → Opens file (Ok s) → Serves (held s) (held t) before.left after.left before.written after.written e → IsStates t → (e ≡ ended.SourceFault → Rose before.source_faults after.source_faults) → (e ≡ ended.SinkFault → Rose before.sink_faults after.sink_faults) → n ≡ status_of e
+pub served_runs : (words : List (List ℕ)) (name file : List ℕ) (before after : Outside) (n : ℕ) (s t : States) (e : Ended) → Some name ≡ session_file words → Holds before.files name (Some file) → length file ≤ most_genesis → Opens file (Ok s) → Serves (held s) (held t) before.left after.left before.written after.written e → IsStates t → (e ≡ ended.SourceFault → Rose before.source_faults after.source_faults) → (e ≡ ended.SinkFault → Rose before.sink_faults after.sink_faults) → n ≡ status_of e
     → Runs words before after n
-served_runs words name file before after n s t e named holds opened serves kept source sink is =
+served_runs words name file before after n s t e named holds short opened serves kept source sink is =
     let x : IsServed name before after n = record {
       file = file;
       holds = holds;
+      short = short;
       genesis = opened.1.0;
       decodes = opened.1.1;
       held = held t;

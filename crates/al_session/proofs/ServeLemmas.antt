@@ -19,7 +19,7 @@ use Rattle.al_states.specs.declared.states.Told.{Told}
 use Rattle.al_states.specs.Held.{Held}
 use Rattle.al_states.specs.Replies.{Replies, IsAnswer, Grows, IsAnswered}
 use Rattle.al_session.specs.Taking.{Grown, IsRefusedPiece}
-use Rattle.al_session.specs.Connection.{told_text, IsToldOf, Answers, last_front, Serving, Serves, EndsAs, IsWritten}
+use Rattle.al_session.specs.Connection.{told_text, IsToldOf, Answers, last_front, GrowsBy, Grow, Serving, Serves, EndsAs, IsWritten}
 use Rattle.al_session.proofs.TakingLemmas.{left_then, left_none}
 
 -- ---- lists of blocks
@@ -66,6 +66,20 @@ last_front-push : (low : ℕ) (ts : List Told) (t : Told) → last_front low (ts
 last_front-push low [] t = refl
 last_front-push low (u ∷ ts) t = last_front-push u.front ts t
 
+-- ---- growing
+
+-- what was sent in place of an answer tells of the same block, or of no memory
+sent_grows : (body : List ℕ) (xs ys : List Block) (a sent : Answer) → Grows body xs ys a → (sent ≡ a) ⊎ (sent ≡ memory_answer) → GrowsBy body xs ys sent
+sent_grows body xs ys a sent (inl stays) which = inl stays
+sent_grows body xs ys a sent (inr (b, is, more, says)) (inl same) = inr (b, is, more, inl (same ∙ says))
+sent_grows body xs ys a sent (inr (b, is, more, says)) (inr none) = inr (b, is, more, inr none)
+
+grow_more : (xs ys zs : List Block) (ms : List Message) (ts : List Told) (m : Message) (t : Told) → Grow xs ms ts ys → GrowsBy m.body ys zs t.answer → Grow xs (ms ++ m ∷ []) (ts ++ t ∷ []) zs
+grow_more xs ys zs [] [] m t h x = (zs, subst (λ list. GrowsBy m.body list zs t.answer) h x, refl)
+grow_more xs ys zs (n ∷ ms) (u ∷ ts) m t h x = (h.0, h.1, grow_more h.0 ys zs ms ts m t h.2 x)
+grow_more xs ys zs [] (u ∷ ts) m t h x = absurd h
+grow_more xs ys zs (n ∷ ms) [] m t h x = absurd h
+
 -- ---- texts
 
 wrote_then : (a b c : Option (List ℕ)) (x y : List ℕ) → Wrote a b x → Wrote b c y → Wrote a c (x ++ y)
@@ -110,6 +124,7 @@ begins h a w = record {
   written = wrote_none w;
   origin = refl;
   lists = prefix_self h.blocks;
+  grown = refl;
   answers = tt;
   top = omega arith;
 }
@@ -122,6 +137,7 @@ took before after a b c w v old new requests told s p = record {
   written = s.written;
   origin = s.origin;
   lists = s.lists;
+  grown = s.grown;
   answers = s.answers;
   top = s.top;
 }
@@ -132,6 +148,7 @@ pub record Replied (before after : Held) (a b : Option (List ℕ)) (rest : List 
   pub each : All IsRequest requests
   pub origin : after.origin ≡ before.origin
   pub lists : IsPrefix before.blocks after.blocks
+  pub grown : Grow before.blocks requests told after.blocks
   pub answers : Answers after.origin after.blocks (length before.blocks) requests told
   pub top : last_front (length before.blocks) told ≤ length after.blocks
 
@@ -177,6 +194,7 @@ answered before mid after a b w v waiting rest body requests told m ask size t s
       each = All-push IsRequest requests m s.each valid;
       origin = x.origin ∙ s.origin;
       lists = prefix_then before.blocks mid.blocks after.blocks s.lists grows;
+      grown = grow_more before.blocks mid.blocks after.blocks requests told m out s.grown (subst (λ bytes. GrowsBy bytes mid.blocks after.blocks sent) same (sent_grows body mid.blocks after.blocks t.answer sent x.grows which));
       answers = answers_more after.origin after.blocks (length before.blocks) requests told m out (answers_grow after.origin mid.blocks after.blocks (length before.blocks) requests told grows old) (ask, asks.0, third);
       top = rw (last_front-push (length before.blocks) told out) x.told.within;
     }
@@ -190,6 +208,7 @@ goes_on before after a b w v u rest requests told m t x written put = record {
   written = subst (Wrote w u) (sym (flat_push told t)) (wrote_then w v u (flat_map told_text told) (told_text t) written put);
   origin = x.origin;
   lists = x.lists;
+  grown = x.grown;
   answers = x.answers;
   top = x.top;
 }
@@ -208,7 +227,7 @@ ends_whole before after a b w v waiting requests told end s texts ends = (
   [],
   s.cut,
   s.written,
-  record { cut = refl; each = s.each; texts = texts; ends = ends; origin = s.origin; lists = s.lists; answers = s.answers; top = s.top },
+  record { cut = refl; each = s.each; texts = texts; ends = ends; origin = s.origin; lists = s.lists; grown = s.grown; answers = s.answers; top = s.top },
 )
 
 -- a text stands behind the answers, and this part of it was written
@@ -223,7 +242,7 @@ ends_behind before after a b w v u waiting text part requests told end s texts e
   text ∷ [],
   s.cut,
   wrote_then w v u (flat_map told_text told) part s.written put,
-  record { cut = refl; each = s.each; texts = texts; ends = ends; origin = s.origin; lists = s.lists; answers = s.answers; top = s.top },
+  record { cut = refl; each = s.each; texts = texts; ends = ends; origin = s.origin; lists = s.lists; grown = s.grown; answers = s.answers; top = s.top },
 )
 
 -- the source ended behind a request
@@ -277,6 +296,7 @@ answer_failed before after a b w v u rest requests told m t part x written front
     ends = inl refl;
     origin = x.origin;
     lists = x.lists;
+    grown = x.grown;
     answers = x.answers;
     top = x.top;
   },

@@ -5,15 +5,17 @@ use mathlib.Core.List.{IsPrefix}
 use Rattle.al_base.specs.Causes.{Left, Wrote, IsAtEnd}
 use Rattle.al_eval.specs.State.{State}
 use Rattle.al_block.specs.declared.block.Block.{Block}
-use Rattle.al_http.specs.Answers.{answer_text, not_built_answer}
+use Rattle.al_block.specs.Block.{IsBlock}
+use Rattle.al_http.specs.Answers.{answer_text, memory_answer, not_built_answer}
 use Rattle.al_http.specs.Asks.{Asks}
 use Rattle.al_http.specs.Requests.{Message, IsRequest, stream_of, IsUnfinished}
+use Rattle.al_http.specs.declared.answer.Answer.{Answer}
 use Rattle.al_http.specs.declared.asking.Request.{Request}
 use Rattle.al_session.specs.declared.link.Ended.{Ended}
 use Rattle.al_session.specs.declared.link.Ended.TheVariants as ended
 use Rattle.al_states.specs.declared.states.Told.{Told}
 use Rattle.al_states.specs.Held.{Held}
-use Rattle.al_states.specs.Replies.{IsAnswer}
+use Rattle.al_states.specs.Replies.{taken, IsAnswer}
 use Rattle.al_session.specs.Taking.{IsRefusedPiece}
 
 -- ---- the answers
@@ -38,6 +40,17 @@ abbrev pub last_front : ℕ → List Told → ℕ
 last_front low [] = low
 last_front low (t ∷ ts) = last_front t.front ts
 
+-- the blocks stay, or the block that the body spells is the last one, and the answer says so or that there was no memory for it
+abbrev pub GrowsBy : List ℕ → List Block → List Block → Answer → Type 0
+GrowsBy body before after a = (after ≡ before) ⊎ ((b : Block) × IsBlock body b × (after ≡ before ++ b ∷ []) × ((a ≡ taken (length after) (length after)) ⊎ (a ≡ memory_answer)))
+
+-- the blocks grow by the posted blocks that were taken, in order, and by no others
+abbrev pub Grow : List Block → List Message → List Told → List Block → Type 0
+Grow before [] [] after = after ≡ before
+Grow before (m ∷ ms) (t ∷ ts) after = (mid : List Block) × GrowsBy m.body before mid t.answer × Grow mid ms ts after
+Grow before [] (t ∷ ts) after = ⊥
+Grow before (m ∷ ms) [] after = ⊥
+
 -- ---- while it is served
 
 -- waiting is what was taken and not answered yet
@@ -47,6 +60,7 @@ pub record Serving (before after : Held) (left_before left_now written_before wr
   pub written : Wrote written_before written_now (flat_map told_text told)
   pub origin : after.origin ≡ before.origin
   pub lists : IsPrefix before.blocks after.blocks
+  pub grown : Grow before.blocks requests told after.blocks
   pub answers : Answers after.origin after.blocks (length before.blocks) requests told
   pub top : last_front (length before.blocks) told ≤ length after.blocks
 
@@ -88,6 +102,7 @@ pub record Served (before after : Held) (left_now : Option (List ℕ)) (taken wr
   pub ends : EndsAs end left_now taken requests rest behind
   pub origin : after.origin ≡ before.origin
   pub lists : IsPrefix before.blocks after.blocks
+  pub grown : Grow before.blocks requests told after.blocks
   pub answers : Answers after.origin after.blocks (length before.blocks) requests told
   pub top : last_front (length before.blocks) told ≤ length after.blocks
 

@@ -1,3 +1,5 @@
 pub mod Connection
+pub mod Laws
 pub mod Taking
 pub mod Sessions
+pub mod Entering

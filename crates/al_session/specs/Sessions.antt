@@ -124,6 +124,7 @@ pub record IsShort (before after : Outside) (n : ℕ) : Type 0 where
 pub record IsServed (name : List ℕ) (before after : Outside) (n : ℕ) : Type 0 where
   pub file : List ℕ
   pub holds : Holds before.files name (Some file)
+  pub short : length file ≤ most_genesis
   pub genesis : Genesis
   pub decodes : IsGenesis file genesis
   pub held : Held

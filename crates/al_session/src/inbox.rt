@@ -41,6 +41,9 @@ pub enum Next {
 }
 
 /// The bytes that left the source and wait to be used.
+///
+/// However much was taken, it holds at most 5,263,360 bytes: a head of 16,384, a body of 5,242,880
+/// and what one take gives.
 #[derive(Drop)]
 pub struct Inbox {
     bytes: Vec<u8>,
@@ -54,7 +57,7 @@ impl Model for Inbox {
 
     ghost view = { λ b. drop b.start b.bytes.items };
 
-    ghost invariant = { λ b. b.start ≤ length b.bytes.items };
+    ghost invariant = { λ b. (b.start ≤ length b.bytes.items) × (length b.bytes.items ≤ 5263360) };
 }
 
 impl Inbox {
@@ -88,22 +91,14 @@ impl Inbox {
         self.start += n;
     }
 
-    // Gives the room of the bytes that went.
-    fn compact(&mut self)
-        ensures { self.new ≡ self.old }
-    {
-        if 0 < self.start {
-            self.bytes.drain(..self.start);
-            self.start = 0;
-        }
-    }
-
-    /// Takes once from the source.
+    /// Takes once from the source, into the room of the bytes that went.
     pub fn fill<S: Source>(&mut self, source: &mut S) -> Filled
+        requires { length self.old ≤ 5259264 }
         ensures bytes { Fills self.old self.new (S.left source.old) (S.left source.new) (S.faults source.old) (S.faults source.new) result }
         ensures later { S.faults source.old ≤ S.faults source.new }
     {
-        self.compact();
+        self.bytes.drain(..self.start);
+        self.start = 0;
         let mut piece = [0u8; 4096];
         let Ok(n) = source.take(&mut piece) else {
             return Filled::Fault;
@@ -140,6 +135,7 @@ impl Inbox {
 
     // Takes until so many bytes wait.
     fn wait_for<S: Source>(&mut self, source: &mut S, need: usize) -> Filled
+        requires { need ≤ 5259264 }
         ensures bytes { Waits self.old self.new (S.left source.old) (S.left source.new) (S.faults source.old) (S.faults source.new) need result }
         ensures later { S.faults source.old ≤ S.faults source.new }
     {

@@ -1,11 +1,13 @@
 //! One connection over the states of a ledger, and the command that serves it.
 #![tactic(auto)]
 
+mod command;
 mod inbox;
+mod laws;
 mod link;
-mod run;
 mod words;
 
+pub use command::{Status, enter, run};
+pub use laws::one_reply;
 pub use link::{Caller, Ended, serve_link};
-pub use run::{Status, run};
 pub use words::Words;

@@ -1,9 +1,11 @@
 //! The command's words.
-ghost use Rattle.std.specs.Prelude.{◌≡◌, ◌∷◌, [], ◌++◌, OnOk, OnErr, Option};
+ghost use Rattle.std.specs.Prelude.{◌≡◌, ◌∷◌, [], ◌++◌, IfOk, OnOk, OnErr, Option};
 ghost use Rattle.std.specs.Option.{option_copied};
+ghost use Rattle.al_session.specs.Entering.{words_behind};
 ghost use Rattle.al_session.specs.Sessions.{session_file};
 
 use std::alloc::{AllocError, Global};
+use std::env;
 use std::marker::Model;
 
 /// The words that a command is given, seen as a list of texts.
@@ -28,6 +30,19 @@ impl Words {
         Words {
             words: Vec::new(alloc),
         }
+    }
+
+    /// The arguments behind the first, which is the program's name.
+    pub fn behind_name(alloc: Global, args: env::Args<Global>) -> Result<Words, AllocError>
+        ensures { IfOk result (λ words. words ≡ words_behind args) }
+    {
+        let mut args = args;
+        let _name = args.next();
+        let mut words = Words::new(alloc);
+        while let Some(word) = args.next() {
+            words.push(alloc, word.as_str())?;
+        }
+        Ok(words)
     }
 
     /// Appends a word.

@@ -1,5 +1,6 @@
-use Rattle.std.proofs.Common.{◌++◌}
+use Rattle.std.proofs.Common.{◌++◌, arith}
 use Rattle.al_http.specs.Requests.{IsBuilt, AsksFor}
+use Rattle.al_http.proofs.RestLemmas.{body_most}
 use Rattle.al_session.proofs.TakingLemmas.{not_asked, bad_refused, unbuilt_refused, body_more, body_end, body_fault, left_then}
 use Rattle.al_session.proofs.inbox.Inbox.next.Goals as goal
 
@@ -32,3 +33,10 @@ returns-clause-bytes g c =
     let x = c.in-Got.ensures.bytes in
     let m = c.in-Memory-wait_for.ensures.bytes in
     (x.0.got ++ m.0, left_then _ (g.S.Source.left c.next_head.new.source) _ x.0.got m.0 x.0.left m.1)
+
+pub wait_for-requires : goal.wait_for-requires
+wait_for-requires g c =
+    let x = c.in-Got.ensures.bytes in
+    let asks : IsBuilt x.1.0 × AsksFor x.1.0 c.in-Some.asked.request c.in-Some.asked.size = c.in-Some.ensures x.1.0 x.1.1.limits x.1.1.is in
+    let size = body_most c.in-Some.asked.request c.in-Some.asked.size asks.1.2 in
+    omega (arith, x.1.1.is.used, x.1.1.limits.bytes, size)

@@ -1,7 +1,7 @@
 ghost use Rattle.al_http.specs.Answers.{IsSound};
 
-use crate::{Answer, ErrorName, More, answer_bytes, memory_text};
 use al_base::Status;
+use al_http::{Answer, ErrorName, More, answer_bytes, memory_text};
 use al_rows::AccountRow;
 use std::alloc::{AllocError, Global};
 use std::test::Fail;

@@ -1,5 +1,7 @@
 //! The command.
 ghost use Rattle.std.specs.Prelude.{◌≡◌, ◌≤◌, IfOk};
+ghost use Rattle.std.specs.Process.{exit_status};
+ghost use Rattle.al_session.specs.Entering.{Enters, words_of};
 ghost use Rattle.al_session.specs.Sessions.{IsDigit, KeepsFiles, Refuses, Runs, Says, folder_line, genesis_line, status_of};
 
 use crate::link::{Caller, Ended, serve_link};
@@ -7,6 +9,8 @@ use crate::words::Words;
 use al_base::{Folder, FolderRefusal, Sink, Source};
 use al_states::{OpenFault, States};
 use std::alloc::{AllocError, Global};
+use std::process::ExitCode;
+use std::{env, io};
 
 /// The most bytes of a genesis file.
 const MOST_GENESIS: usize = 5_242_880;
@@ -118,5 +122,36 @@ pub fn run<S: Source, T: Sink, F: Folder>(
             sink,
         )),
         Err(fault) => refuse(sink, fault),
+    }
+}
+
+// The words of the process's arguments. None where one is no text.
+fn words_of(alloc: Global, args: io::Result<env::Args<Global>>) -> Result<Words, AllocError>
+    ensures { IfOk result (λ words. words ≡ words_of args) }
+{
+    match args {
+        Ok(args) => Words::behind_name(alloc, args),
+        Err(error) => match error.kind() {
+            io::ErrorKind::OutOfMemory => Err(AllocError),
+            _ => Ok(Words::new(alloc)),
+        },
+    }
+}
+
+/// Runs the command that the process's arguments are behind the first, which is the program's name.
+/// Where one is no text, they are no command.
+pub fn enter<S: Source, T: Sink, F: Folder>(
+    alloc: Global,
+    args: io::Result<env::Args<Global>>,
+    source: &mut S,
+    sink: &mut T,
+    folder: &mut F,
+) -> ExitCode
+    ensures enters { Enters (words_of args) (record { left = S.left source.old; written = T.written sink.old; files = F.files folder.old; source_faults = S.faults source.old; sink_faults = T.faults sink.old; folder_faults = F.faults folder.old }) (record { left = S.left source.new; written = T.written sink.new; files = F.files folder.new; source_faults = S.faults source.new; sink_faults = T.faults sink.new; folder_faults = F.faults folder.new }) (exit_status result) }
+    ensures files { KeepsFiles (F.files folder.old) (F.files folder.new) }
+{
+    match words_of(alloc, args) {
+        Ok(words) => ExitCode::from(run(alloc, &words, source, sink, folder).0),
+        Err(_) => ExitCode::from(7),
     }
 }

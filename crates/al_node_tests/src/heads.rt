@@ -1,5 +1,5 @@
-use crate::{Asked, HeadRead, Request, read_head};
 use al_base::Address;
+use al_http::{Asked, HeadRead, Request, read_head};
 use std::alloc::{AllocError, Global};
 use std::test::Fail;
 

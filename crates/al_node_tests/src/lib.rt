@@ -1,0 +1,19 @@
+//! Tests of requests, answers, connections and commands, over public calls.
+#![tactic(auto)]
+
+#[cfg(test)]
+mod answers;
+#[cfg(test)]
+mod bytes;
+#[cfg(test)]
+mod chains;
+#[cfg(test)]
+mod common;
+#[cfg(test)]
+mod endings;
+#[cfg(test)]
+mod heads;
+#[cfg(test)]
+mod payments;
+#[cfg(test)]
+mod rewards;
