@@ -12,6 +12,7 @@ mod hashing;
 mod header;
 mod header_record;
 mod laws;
+mod payset;
 
 pub use block::Block;
 pub use decoding::{BlockFault, decode_block, encode_block};
@@ -19,6 +20,7 @@ pub use hashing::{group_end, header_hash, payset_hash};
 pub use header::{Field, Header};
 pub use header_record::{header_entries, read_header};
 pub use laws::block_laws;
+pub use payset::{PaysetHashes, payset_hashes};
 
 #[cfg(test)]
 mod tests;
