@@ -1,9 +1,9 @@
 ghost use Rattle.std.specs.Prelude.{◌<◌};
 
-use super::*;
-use crate::step_tests::{BLOCK, ID};
+use crate::eval::{BLOCK, ID};
 use al_base::{Address, Hash};
 use al_block::decode_block;
+use al_eval::{Entry, Tail};
 use std::test::*;
 
 const NO_LEASE: Hash = [0; 32];

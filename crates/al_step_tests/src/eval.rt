@@ -2,10 +2,12 @@ ghost use Rattle.std.specs.Prelude.{◌≤◌, All, IsTrue};
 ghost use Rattle.al_rows.specs.Rows.{AccountInRange};
 ghost use Rattle.al_eval.specs.State.{IsPay};
 
-use super::*;
-use crate::genesis_tests::OTHER;
+use crate::genesis::OTHER;
 use al_base::{Address, Hash, Key, Status};
 use al_block::{decode_block, header_hash};
+use al_eval::{
+    Before, EvalRefusal, Genesis, GenesisRow, Tail, start_rows, start_totals, step_rows,
+};
 use al_rewards::Count;
 use al_rows::{AccountRow, Row, Stored};
 use al_txn::{Body, Item};

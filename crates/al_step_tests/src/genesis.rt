@@ -1,4 +1,4 @@
-use super::*;
+use al_eval::Genesis;
 use std::test::*;
 
 /// Three accounts: the zero address with 2,500,000 microAlgos, the sink with none, the pool with
