@@ -29,8 +29,8 @@ use Rattle.al_moves.specs.Money.{counts, money_at, share_at, units_at}
 use Rattle.al_moves.proofs.Counts.{counts_fit, counts_put, counts_set}
 use Rattle.al_moves.proofs.Monies.{none_pending}
 use Rattle.al_moves.proofs.Overlays.{get-set}
-use Rattle.al_eval.specs.declared.genesis_fields.FirstAccount.{FirstAccount}
-use Rattle.al_eval.specs.Genesis.{addresses_of, first_row}
+use Rattle.al_genesis.specs.declared.genesis_fields.FirstAccount.{FirstAccount}
+use Rattle.al_genesis.specs.Genesis.{addresses_of, first_row}
 use Rattle.al_eval.specs.Start.{and_accounts, start, start_rows, start_totals, with_account, with_accounts}
 use Rattle.al_eval.specs.State.{counts_in}
 use Rattle.al_eval.specs.Sound.{StartIsCounted}
@@ -122,4 +122,4 @@ start_counted input g is =
     let same : start_totals g.accounts ≡ counts_in (start g) =
     subst (λ n. start_totals g.accounts ≡ counts n (bare (start_rows g.accounts))) level
     (subst (λ xs. start_totals xs ≡ counts 0 (bare (start_rows xs))) (sym is.says.accounts) (all_counted is.fields.accounts is.good.0.0.0.0)) in
-    (same, subst AreTotals (sym same) (counts_fit g.header.level (bare (start g).rows) (omega (arith, (start_is_sound input g is).money))))
+    (same, subst AreTotals (sym same) (counts_fit g.header.level (bare (start g).rows) (omega (arith, (start_is_sound input g is).rows.money))))

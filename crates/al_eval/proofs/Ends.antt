@@ -20,23 +20,21 @@ use Rattle.al_moves.specs.Works.{Worked}
 use Rattle.al_moves.proofs.Counts.{counts_fit, counts_raised, money_by, money_counted, total-le, units_by, units_within}
 use Rattle.al_eval.specs.declared.before.Before.{Before}
 use Rattle.al_eval.specs.declared.before.EvalRefusal.{EvalRefusal}
-use Rattle.al_eval.specs.declared.before.EvalRefusal.TheVariants as answer
 use Rattle.al_eval.specs.declared.tail.Entry.{Entry}
-use Rattle.al_eval.specs.Past.{entry_of}
+use Rattle.al_eval.specs.Past.{entry_of, live}
 use Rattle.al_eval.specs.Next.{IsNext}
-use Rattle.al_eval.specs.Sound.{IsSoundBefore, IsStep, LeadsTo, Sound, begun}
-use Rattle.al_eval.specs.Steps.{Refusal, broken, header, Gives, Evals, TotalsFollow, block_rows, units_before}
+use Rattle.al_eval.specs.Sound.{IsSoundBefore, IsStep, IsStepRefusal, LeadsTo, Sound, begun}
+use Rattle.al_eval.specs.Refusals.{Refusal, Verdict, refused, failed, no_memory, refusal_of, IsDue}
+use Rattle.al_eval.specs.Answers.{Evals, TotalsFollow}
+use Rattle.al_eval.specs.Steps.{block_rows}
+use Rattle.al_eval.specs.Pool.{units_before}
 use Rattle.al_eval.specs.State.{State, Steps, after, before_of, counts_in, step, stamped}
 use Rattle.al_eval.proofs.Nexts.{next_is}
-use Rattle.al_eval.proofs.Sounds.{Leads, block_leads, block_pays, block_within, counts_after, due_of, step_keeps}
+use Rattle.al_eval.proofs.Sounds.{Leads, block_leads, block_refused, counts_after, due_of, step_keeps}
+use Rattle.al_eval.proofs.Lives.{items_live}
+use Rattle.al_eval.specs.Header.{first_fault, header_checks, rewards_checks, payset_fault, counter_fault, unless_fault}
+use Rattle.al_eval.specs.Pool.{rewards_due, owed_by, pool_paid}
 use Rattle.al_eval.proofs.Chains.{bare_stamped, step_ok}
-
-pub evals_err : {F : Type 0} (T : Type 0) (due : Result RowMap Refusal) (old m : RowMap) (e : EvalRefusal F) → Gives {T = T} due (Err e) m → Evals due old (Err e)
-evals_err T due old m (answer.Broken p r) h = h
-evals_err T due old m (answer.Header f) h = h
-evals_err T due old m (answer.PoolShort p o) h = h
-evals_err T due old m (answer.View f) h = tt
-evals_err T due old m answer.Memory h = tt
 
 -- ---- the units
 
@@ -72,7 +70,7 @@ totals_follow due s h old new risen totals d is block level raise count told n e
 
 -- the units of a sound state can be counted
 units_are : (s : State) → Sound s → units_before (before_of s) ≡ all_units (counts_in s)
-units_are s sound = few_units s.header.level (bare s.rows) sound.money
+units_are s sound = few_units s.header.level (bare s.rows) sound.rows.money
 
 due_before : (s : State) (b : Block) → Sound s → block_rows (before_of s) (units_before (before_of s)) (map entry_of s.past) b (bare s.rows) ≡ due_of s b
 due_before s b sound = ap (λ u. block_rows (before_of s) u (map entry_of s.past) b (bare s.rows)) (units_are s sound)
@@ -109,21 +107,34 @@ due_err : (s : State) (b : Block) (r : Refusal) → due_of s b ≡ Err r → ste
 unfolding step
 due_err s b r e = ap (λ d. then_do d (λ m. Ok (after s b m))) e
 
+refused_step : (s : State) (b : Block) (v : Verdict) → Sound s → IsDue (due_of s b) v → IsStepRefusal s b v
+refused_step s b (refused r) sound h = (due_err s b r h, block_refused s b r sound h)
+refused_step s b failed sound h = tt
+refused_step s b no_memory sound h = tt
+
 -- over what is due of a sound state
 sound_step : {F : Type 0} (s : State) (b : Block) (r : Result RoundDelta (EvalRefusal F)) → Sound s → Evals (due_of s b) (bare s.rows) r → TotalsFollow (due_of s b) (before_of s) b.header (bare s.rows) r → IsStep s b r
 sound_step s b (Ok d) sound h follow = ok_step s b d sound h follow
-sound_step s b (Err (answer.Broken p r)) sound h follow = (due_err s b (broken p r) h, block_within s b p r sound h)
-sound_step s b (Err (answer.Header f)) sound h follow = due_err s b (header f) h
-sound_step s b (Err (answer.PoolShort p o)) sound h follow = absurd (block_pays s b p o sound h)
-sound_step s b (Err (answer.View f)) sound h follow = tt
-sound_step s b (Err answer.Memory) sound h follow = tt
+sound_step s b (Err e) sound h follow = refused_step s b (refusal_of e) sound h
+
+-- what is due depends on the live entries alone
+due_live : (known : Before) (units : ℕ) (tail past : List Entry) (b : Block) (m : RowMap) → live b.header.round tail ≡ live b.header.round past → block_rows known units tail b m ≡ block_rows known units past b m
+unfolding block_rows
+due_live known units tail past b m alive = λ i.
+    then_do (unless_fault (first_fault (header_checks known b.header)) m)
+    (λ m. then_do (unless_fault (first_fault (rewards_checks (rewards_due known b.header.round units m) b.header)) m)
+    (λ m. then_do (pool_paid known.chain.special.pool (owed_by known units b.header) m)
+    (λ m. then_do (unless_fault (payset_fault b) m)
+    (λ m. then_do (items_live known.chain b.header.level b.header.round 0 tail past known.header.counter 0 b.items m alive i)
+    (λ n. unless_fault (counter_fault b.header n.counter) n.rows)))))
 
 -- `eval` over a sound state is the step
 pub eval_is_step : {F : Type 0} (known : Before) (tail : List Entry) (rows : RowMap) (b : Block) (r : Result RoundDelta (EvalRefusal F)) → Evals (block_rows known (units_before known) tail b rows) rows r → TotalsFollow (block_rows known (units_before known) tail b rows) known b.header rows r
-    → (s : State) → known ≡ before_of s → tail ≡ map entry_of s.past → rows ≡ bare s.rows → Sound s → IsStep s b r
-eval_is_step known tail rows b r h follow s is entries told sound =
+    → (s : State) → known ≡ before_of s → live b.header.round tail ≡ live b.header.round (map entry_of s.past) → rows ≡ bare s.rows → Sound s → IsStep s b r
+eval_is_step known tail rows b r h follow s is alive told sound =
     let due : block_rows known (units_before known) tail b rows ≡ due_of s b =
-    ap (λ (k : Before). block_rows k (units_before k) tail b rows) is ∙ ap₂ (λ (es : List Entry) (m : RowMap). block_rows (before_of s) (units_before (before_of s)) es b m) entries told ∙ due_before s b sound in
+    due_live known (units_before known) tail (map entry_of s.past) b rows alive
+    ∙ ap (λ (k : Before). block_rows k (units_before k) (map entry_of s.past) b rows) is ∙ ap (λ (m : RowMap). block_rows (before_of s) (units_before (before_of s)) (map entry_of s.past) b m) told ∙ due_before s b sound in
     sound_step s b r sound
     (subst (λ m. Evals (due_of s b) m r) told (subst (λ d. Evals d rows r) due h))
     (subst (λ m. TotalsFollow (due_of s b) (before_of s) b.header m r) told (subst (λ (k : Before). TotalsFollow (due_of s b) k b.header rows r) is (subst (λ d. TotalsFollow d known b.header rows r) due follow)))
@@ -144,24 +155,22 @@ left_is : (b : Block) (rows new : BTreeMap Key Stored) (old n : RowMap) (d : Rou
 left_is b rows new old n d told round h next =
     next_is d.round rows new n d.changes (subst (λ (m : RowMap). AreChanges m n (map change_of d.changes)) told h) next ∙ ap (λ r. stamped r (from_entries rows.entries) n) round
 
-shown : {F : Type 0} (s : State) (b : Block) (e : EvalRefusal F) → IsStep s b (Err e) → Steps (step s b) (Err e)
-shown s b (answer.Broken p r) h = h.0
-shown s b (answer.Header f) h = h
-shown s b (answer.PoolShort p o) h = absurd h
-shown s b (answer.View f) h = tt
-shown s b answer.Memory h = tt
+shown : (s : State) (b : Block) (v : Verdict) → IsStepRefusal s b v → IsDue (step s b) v
+shown s b (refused r) h = h.0
+shown s b failed h = tt
+shown s b no_memory h = tt
 
 pub steps_err : {F : Type 0} (s : Before) (tail : List Entry) (b : Block) (rows : BTreeMap Key Stored) (old : RowMap) (e : EvalRefusal F) → s.hash ≡ header_hash_of s.header → old ≡ bare (from_entries rows.entries)
-    → ((t : State) → s ≡ before_of t → tail ≡ map entry_of t.past → old ≡ bare t.rows → Sound t → IsStep t b (Err e)) → (past : List Txn) → tail ≡ map entry_of past → IsSoundBefore s rows past → Steps (step (begun s rows past) b) (Err e)
-steps_err s tail b rows old e hash told h past entries is = shown (begun s rows past) b e (h (begun s rows past) (known_is s rows past hash is) entries told is.sound)
+    → ((t : State) → s ≡ before_of t → live b.header.round tail ≡ live b.header.round (map entry_of t.past) → old ≡ bare t.rows → Sound t → IsStep t b (Err e)) → (past : List Txn) → tail ≡ map entry_of past → IsSoundBefore s rows past → Steps (step (begun s rows past) b) (Err e)
+steps_err s tail b rows old e hash told h past entries is = shown (begun s rows past) b (refusal_of e) (h (begun s rows past) (known_is s rows past hash is) (ap (live b.header.round) entries) told is.sound)
 
 pub steps_ok : (s : Before) (tail : List Entry) (b : Block) (rows new : BTreeMap Key Stored) (old : RowMap) (d : RoundDelta) → s.hash ≡ header_hash_of s.header → old ≡ bare (from_entries rows.entries) → d.round ≡ b.header.round
-    → ((t : State) → s ≡ before_of t → tail ≡ map entry_of t.past → old ≡ bare t.rows → Sound t → (n : State) × LeadsTo t b d n) → IsNext d.round d.changes rows.entries new.entries
+    → ((t : State) → s ≡ before_of t → live b.header.round tail ≡ live b.header.round (map entry_of t.past) → old ≡ bare t.rows → Sound t → (n : State) × LeadsTo t b d n) → IsNext d.round d.changes rows.entries new.entries
     → (past : List Txn) → tail ≡ map entry_of past → IsSoundBefore s rows past → (t : State) × (step (begun s rows past) b ≡ Ok t) × (t.rows ≡ from_entries new.entries) × (d.totals ≡ counts_in t)
 unfolding step
 steps_ok s tail b rows new old d hash told round h next past entries is =
     let st = begun s rows past in
-    let r = h st (known_is s rows past hash is) entries told is.sound in
+    let r = h st (known_is s rows past hash is) (ap (live b.header.round) entries) told is.sound in
     let o = step_ok st r.0 b (due_of st b) r.1.stepped in
     let after_is : r.0.rows ≡ stamped b.header.round st.rows o.0 = ap (λ (u : State). u.rows) (sym o.2) in
     let now : bare r.0.rows ≡ o.0 = ap bare after_is ∙ bare_stamped b.header.round st.rows o.0 in

@@ -29,14 +29,14 @@ use Rattle.al_rows.proofs.Maps.{get-map_entries, get-set_at}
 use Rattle.al_moves.specs.Moves.{same_address, share_of}
 use Rattle.al_moves.specs.Money.{worth, money}
 use Rattle.al_moves.proofs.Monies.{none_pending, money_set, same_is}
-use Rattle.al_eval.specs.declared.genesis_fields.FirstAccount.{FirstAccount}
-use Rattle.al_eval.specs.declared.genesis.GenesisRow.{GenesisRow}
-use Rattle.al_eval.specs.Genesis.{addresses_of, has_special, balance_of, money_of, first_row, status_of, interval_of}
+use Rattle.al_genesis.specs.declared.genesis_fields.FirstAccount.{FirstAccount}
+use Rattle.al_genesis.specs.declared.genesis.GenesisRow.{GenesisRow}
+use Rattle.al_genesis.specs.Genesis.{addresses_of, has_special, balance_of, money_of, first_row, status_of, interval_of}
 use Rattle.al_eval.specs.Next.{stored_at}
 use Rattle.al_eval.specs.Start.{with_account, with_accounts, start}
-use Rattle.al_eval.specs.Sound.{CountsAgree, ResourcesAgree, StartIsSound, holding_of, issued_of, owned, boxes_of, box_bytes_of, assets_held_in, assets_created_in, apps_created_in, apps_opted_in, extra_pages_in, uints_in, byte_slices_in}
-use Rattle.al_eval.proofs.Steadies.{Keeps, AllBased, counts_of, at_set, at_unless, no_zero, other_account, keeps_account, keeps_on, keeps_itself}
-use Rattle.al_eval.proofs.Sounds.{resources_agree, counts_agree}
+use Rattle.al_eval.specs.Sound.{SoundRows, CountsAgree, ResourcesAgree, StartIsSound, holding_of, issued_of, owned, boxes_of, box_bytes_of, assets_held_in, assets_created_in, apps_created_in, apps_opted_in, extra_pages_in, uints_in, byte_slices_in}
+use Rattle.al_eval.proofs.Steadies.{Keeps, AllBased, AllInRange, counts_of, at_set, at_unless, no_zero, other_account, keeps_account, keeps_on, keeps_itself}
+use Rattle.al_eval.proofs.Agrees.{resources_agree, counts_agree}
 
 -- ---- the rows of a genesis without their rounds
 
@@ -85,15 +85,16 @@ begun xs = seated nothing (map first_row xs)
 
 -- ---- what they keep of none
 
-seated_keeps : (m : RowMap) (xs : List FirstAccount) → Keeps 0 nothing m → Keeps 0 nothing (seated m (map first_row xs))
-seated_keeps m [] h = h
-seated_keeps m (a ∷ xs) h =
+seated_keeps : (m : RowMap) (xs : List FirstAccount) → money_of xs ≤ max_balance → Keeps 0 nothing m → Keeps 0 nothing (seated m (map first_row xs))
+seated_keeps m [] few h = h
+seated_keeps m (a ∷ xs) few h =
     let r = (first_row a).row in
-    let set : Keeps 0 m (set_account m a.address r) = keeps_account 0 m a.address r (sym (h.counts a.address ∙ ap counts_of (account_none a.address))) (λ _ _. omega arith) in
-    seated_keeps (set_account m a.address r) xs (keeps_on 0 nothing m (set_account m a.address r) h set)
+    let more : money_of (a ∷ xs) ≡ a.row.balance + money_of xs = sum_by-cons (λ x. x) a.row.balance (map (λ (b : FirstAccount). b.row.balance) xs) in
+    let set : Keeps 0 m (set_account m a.address r) = keeps_account 0 m a.address r (sym (h.counts a.address ∙ ap counts_of (account_none a.address))) (λ _ _. omega arith) (λ _. omega (arith, more, few)) in
+    seated_keeps (set_account m a.address r) xs (omega (arith, more, few)) (keeps_on 0 nothing m (set_account m a.address r) h set)
 
-begun_keeps : (xs : List FirstAccount) → Keeps 0 nothing (begun xs)
-begun_keeps xs = seated_keeps nothing xs (keeps_itself 0 nothing)
+begun_keeps : (xs : List FirstAccount) → money_of xs ≤ max_balance → Keeps 0 nothing (begun xs)
+begun_keeps xs few = seated_keeps nothing xs few (keeps_itself 0 nothing)
 
 no_row : (k : Key) (r : Row) → get nothing k ≡ Some r → ⊥
 no_row k r e = let x : ◌≡◌ {A = Option Row} None (Some r) = sym (get-empty key_cmp k) ∙ e in cc
@@ -233,7 +234,7 @@ start_is_sound input g is =
     let recalc : g.header.recalc ≡ 1 = ap (λ (h : Header). h.recalc) head in
     let rate : g.header.rate ≡ 0 = ap (λ (h : Header). h.rate) head in
     let residue : g.header.residue ≡ 0 = ap (λ (h : Header). h.residue) head in
-    let k = begun_keeps xs in
+    let k = begun_keeps xs good.1 in
     let ordered = good.0.0.0.0 in
     let both = and_parts (has_special is.fields.sink xs) (has_special is.fields.pool xs) (and_parts (not (bytes_eq is.fields.sink.0 is.fields.pool.0)) (has_special is.fields.sink xs && has_special is.fields.pool xs) good.0.0.0.1).1 in
     let sink : IsApart (balance_of is.fields.sink xs) (account (begun xs) is.fields.sink) = begun_special is.fields.sink nothing xs ordered both.0 in
@@ -242,14 +243,19 @@ start_is_sound input g is =
     let nothing_due : g.header.rate * (g.header.recalc - g.header.round - 1) ≡ 0 = ap (λ n. n * (g.header.recalc - g.header.round - 1)) rate ∙ zero-mul (g.header.recalc - g.header.round - 1) in
     let pool_is : (account (begun xs) is.fields.pool) ≡ account (bare (start g).rows) g.chain.special.pool = ap₂ account rows_are (sym says.pool) in
     let sink_is : (account (begun xs) is.fields.sink) ≡ account (bare (start g).rows) g.chain.special.sink = ap₂ account rows_are (sym says.sink) in
-    record {
-      money = subst (λ n. money n (bare (start g).rows) ≤ max_balance) level (subst (λ m. money 0 m ≤ max_balance) rows_are (omega (arith, seated_money nothing xs, no_money, good.1)));
-      bases = subst (λ n. AllBased n (bare (start g).rows)) level (subst (AllBased 0) rows_are (k.bases (λ q r e. absurd (no_row q (row.Account r) e))));
-      resources = subst (λ n. ResourcesAgree n (bare (start g).rows)) counter (subst (ResourcesAgree 0) rows_are (resources_agree 0 0 0 nothing (begun xs) k (omega arith) resources_none));
+    let few : money 0 (begun xs) ≤ max_balance = omega (arith, seated_money nothing xs, no_money, good.1) in
+    let rows : SoundRows 0 0 g.chain.special (bare (start g).rows) = record {
+      money = subst (λ m. money 0 m ≤ max_balance) rows_are few;
+      bases = subst (AllBased 0) rows_are (k.bases (λ q r e. absurd (no_row q (row.Account r) e)));
+      ranges = subst AllInRange rows_are (k.ranges (λ q r e. absurd (no_row q r e)));
+      resources = subst (ResourcesAgree 0) rows_are (resources_agree 0 0 0 nothing (begun xs) k (omega arith) resources_none);
       holdings = λ id. subst (λ m. total (holding_of id) m ≡ total (issued_of id) m) rows_are (k.sums (holding_of id) (λ _ _. refl) ∙ total_none (holding_of id) ∙ sym (k.sums (issued_of id) (λ _ _. refl) ∙ total_none (issued_of id)));
       counts = λ who. subst (λ m. CountsAgree m who) rows_are (counts_agree 0 nothing (begun xs) who k (counts_none who));
       sink = ap (λ (r : AccountRow). r.status) (sym sink_is) ∙ sink.0;
       pool = ap (λ (r : AccountRow). r.status) (sym pool_is) ∙ pool.0;
+    } in
+    record {
+      rows = subst (λ n. SoundRows n g.header.counter g.chain.special (bare (start g).rows)) level (subst (λ n. SoundRows 0 n g.chain.special (bare (start g).rows)) counter rows);
       interval = subst (λ n. 1 ≤ n) (sym says.interval) (least_interval is.fields.interval);
       recalc = omega (arith, round, recalc);
       fund = omega (arith, residue, nothing_due, purse, ap (λ (r : AccountRow). r.balance) pool_is);

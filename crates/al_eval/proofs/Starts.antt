@@ -20,10 +20,10 @@ use Rattle.al_rows.proofs.Views.{get-of_entries, sorted}
 use Rattle.al_moves.specs.Works.{at}
 use Rattle.al_moves.proofs.Overlays.{turned_at, same_key}
 use Rattle.al_moves.proofs.Firsts.{each_found, all_more}
-use Rattle.al_eval.specs.declared.genesis_fields.FirstAccount.{FirstAccount}
-use Rattle.al_eval.specs.declared.genesis.GenesisRow.{GenesisRow}
-use Rattle.al_eval.specs.declared.genesis.Genesis.{Genesis}
-use Rattle.al_eval.specs.Genesis.{IsGenesis, first_row, money_of}
+use Rattle.al_genesis.specs.declared.genesis_fields.FirstAccount.{FirstAccount}
+use Rattle.al_genesis.specs.declared.genesis.GenesisRow.{GenesisRow}
+use Rattle.al_genesis.specs.declared.genesis.Genesis.{Genesis}
+use Rattle.al_genesis.specs.Genesis.{IsGenesis, first_row, money_of}
 use Rattle.al_eval.specs.Next.{stored_at}
 use Rattle.al_eval.specs.Start.{with_accounts, and_accounts, start_totals}
 use Rattle.al_base.specs.declared.account.Status.{Status}

@@ -1,7 +1,15 @@
-pub mod Genesis
 pub mod Past
 pub mod Latest
+pub mod Refusals
+pub mod Header
+pub mod Pool
+pub mod Groups
+pub mod Body
+pub mod Items
 pub mod Steps
+pub mod Turns
+pub mod Answers
+pub mod Evaluated
 pub mod Next
 pub mod State
 pub mod Start

@@ -12,6 +12,11 @@ use Rattle.al_eval.specs.declared.tail.Entry.{Entry}
 abbrev pub entry_of : Txn → Entry
 entry_of t = record { id = txid_of t; sender = t.sender; lease = t.lease; last = t.last }
 
+-- the entries that may stand in the round or later
+abbrev pub live : ℕ → List Entry → List Entry
+live round [] = []
+live round (e ∷ es) = if nat_le round e.last then e ∷ live round es else live round es
+
 -- whether an entry that may stand in the round or later has the id
 abbrev pub has_id : ℕ → List ℕ → List Entry → Bool
 has_id round id [] = false
@@ -21,6 +26,11 @@ has_id round id (e ∷ es) = nat_le round e.last && same_bytes e.id id || has_id
 abbrev pub later : ℕ → Option ℕ → ℕ
 later last None = last
 later last (Some other) = max last other
+
+-- the later of two rounds that may be there
+abbrev pub later_of : Option ℕ → Option ℕ → Option ℕ
+later_of None b = b
+later_of (Some a) b = Some (later a b)
 
 -- the greatest last valid round of the entries that pass a test, none where none passes
 abbrev pub greatest_last : (Entry → Bool) → List Entry → Option ℕ

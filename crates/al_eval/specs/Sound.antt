@@ -6,6 +6,7 @@ use Rattle.std.specs.declared.result.Result.{Result}
 use Rattle.std.specs.declared.result.Result.TheVariants.{Ok, Err}
 use Rattle.std.specs.FinMap.{get, from_entries}
 use Rattle.std.specs.BTreeMap.{BTreeMap}
+use Rattle.al_base.specs.declared.account.Special.{Special}
 use Rattle.al_base.specs.declared.account.Status.TheVariants.{NotParticipating}
 use Rattle.al_base.specs.declared.address.Address.{Address}
 use Rattle.al_base.specs.declared.key.Key.{Key}
@@ -25,22 +26,21 @@ use Rattle.al_rows.specs.declared.row.Local.{Local}
 use Rattle.al_rows.specs.declared.row.Holding.{Holding}
 use Rattle.al_rows.specs.declared.row.Row.TheVariants as row
 use Rattle.al_rows.specs.Finite.{total}
-use Rattle.al_rows.specs.Rows.{RowMap, bare, account, has_params}
+use Rattle.al_rows.specs.Rows.{RowMap, InRange, bare, account, has_params}
 use Rattle.al_base.specs.declared.asset.AssetParams.{AssetParams}
 use Rattle.al_moves.specs.declared.rule.Rule.{Rule}
 use Rattle.al_moves.specs.Moves.{AreChanges, change_of, same_address}
 use Rattle.al_moves.specs.Money.{money}
-use Rattle.al_eval.specs.declared.genesis.Genesis.{Genesis}
-use Rattle.al_eval.specs.Genesis.{IsGenesis}
+use Rattle.al_genesis.specs.declared.genesis.Genesis.{Genesis}
+use Rattle.al_genesis.specs.Genesis.{IsGenesis}
 use Rattle.al_eval.specs.Start.{start, start_totals}
 use Rattle.al_eval.specs.State.{State, step, counts_in}
 use Rattle.al_deltas.specs.declared.delta.RoundDelta.{RoundDelta}
 use Rattle.al_eval.specs.declared.before.Before.{Before}
 use Rattle.al_eval.specs.declared.before.EvalRefusal.{EvalRefusal}
-use Rattle.al_eval.specs.declared.before.EvalRefusal.TheVariants as answer
 use Rattle.al_rows.specs.declared.stored.Stored.{Stored}
 use Rattle.al_txn.specs.declared.txn.Txn.{Txn}
-use Rattle.al_eval.specs.Steps.{broken, header, pool_short}
+use Rattle.al_eval.specs.Refusals.{Refusal, broken, header, pool_short, Verdict, refused, failed, no_memory, refusal_of}
 
 abbrev pub one_if : Bool → ℕ
 one_if b = if b then 1 else 0
@@ -151,14 +151,19 @@ issued_of id k r = 0
 
 -- ---- sound states
 
+-- what is sound of rows, at a reward level and a count of all transactions
+pub record SoundRows (level counter : ℕ) (special : Special) (m : RowMap) : Type 0 where
+  pub money : money level m ≤ max_balance
+  pub bases : (k : Key) (r : AccountRow) → get m k ≡ Some (row.Account r) → is_apart r.status ≡ false → r.base ≤ level
+  pub ranges : (k : Key) (r : Row) → get m k ≡ Some r → InRange k r
+  pub resources : ResourcesAgree counter m
+  pub holdings : (id : ℕ) → total (holding_of id) m ≡ total (issued_of id) m
+  pub counts : (who : Address) → CountsAgree m who
+  pub sink : (account m special.sink).status ≡ NotParticipating
+  pub pool : (account m special.pool).status ≡ NotParticipating
+
 pub record Sound (s : State) : Type 0 where
-  pub money : money s.header.level (bare s.rows) ≤ max_balance
-  pub bases : (k : Key) (r : AccountRow) → get (bare s.rows) k ≡ Some (row.Account r) → is_apart r.status ≡ false → r.base ≤ s.header.level
-  pub resources : ResourcesAgree s.header.counter (bare s.rows)
-  pub holdings : (id : ℕ) → total (holding_of id) (bare s.rows) ≡ total (issued_of id) (bare s.rows)
-  pub counts : (who : Address) → CountsAgree (bare s.rows) who
-  pub sink : (account (bare s.rows) s.chain.special.sink).status ≡ NotParticipating
-  pub pool : (account (bare s.rows) s.chain.special.pool).status ≡ NotParticipating
+  pub rows : SoundRows s.header.level s.header.counter s.chain.special (bare s.rows)
   pub interval : 1 ≤ s.chain.interval
   pub recalc : s.header.round < s.header.recalc
   pub fund : least_pool + s.header.residue + s.header.rate * (s.header.recalc - s.header.round - 1) ≤ (account (bare s.rows) s.chain.special.pool).balance
@@ -188,14 +193,25 @@ pub record LeadsTo (s : State) (b : Block) (d : RoundDelta) (t : State) : Type 0
   pub sound : Sound t
   pub money : money t.header.level (bare t.rows) ≡ money s.header.level (bare s.rows)
 
--- the delta of the step, or its refusal: the pool can pay, and no balance passes the most
+-- a rule other than those on what passes the most: 41 of a balance, 53 of a holding
+abbrev pub IsOtherRule : Rule → Type 0
+IsOtherRule r = (r.number ≢ 41) × (r.number ≢ 53)
+
+-- a refusal that a sound state can come to: the pool can pay, and no balance and no holding passes the most
+abbrev pub MayCome : Refusal → Type 0
+MayCome (broken place rule) = IsOtherRule rule
+MayCome (header f) = ⊤
+MayCome (pool_short pool owed) = ⊥
+
+abbrev pub IsStepRefusal : State → Block → Verdict → Type 0
+IsStepRefusal s b (refused r) = (step s b ≡ Err r) × MayCome r
+IsStepRefusal s b failed = ⊤
+IsStepRefusal s b no_memory = ⊤
+
+-- the delta of the step, or its refusal
 abbrev pub IsStep : {F : Type 0} → State → Block → Result RoundDelta (EvalRefusal F) → Type 0
 IsStep s b (Ok d) = (t : State) × LeadsTo s b d t
-IsStep s b (Err (answer.Broken place rule)) = (step s b ≡ Err (broken place rule)) × (rule.number ≢ 41)
-IsStep s b (Err (answer.Header f)) = step s b ≡ Err (header f)
-IsStep s b (Err (answer.PoolShort pool owed)) = ⊥
-IsStep s b (Err (answer.View f)) = ⊤
-IsStep s b (Err answer.Memory) = ⊤
+IsStep s b (Err e) = IsStepRefusal s b (refusal_of e)
 
 -- ---- laws
 
@@ -207,9 +223,9 @@ StartIsSound = (input : List ℕ) (g : Genesis) → IsGenesis input g → Sound 
 abbrev pub StartIsCounted : Type 0
 StartIsCounted = (input : List ℕ) (g : Genesis) → IsGenesis input g → (start_totals g.accounts ≡ counts_in (start g)) × AreTotals (start_totals g.accounts)
 
--- From a sound state a block that is taken leads to a sound state with the same money, and none is refused because the pool could not pay, or because a balance would pass the most. While no application is built, this asks nothing of their accounts
+-- From a sound state a block that is taken leads to a sound state with the same money, and none is refused because the pool could not pay, or because a balance or a holding would pass the most. While no application is built, this asks nothing of their accounts
 pub record StepIsSound : Type 0 where
   pub sound : (s t : State) (b : Block) → Sound s → step s b ≡ Ok t → Sound t
   pub keeps : (s t : State) (b : Block) → Sound s → step s b ≡ Ok t → money t.header.level (bare t.rows) ≡ money s.header.level (bare s.rows)
   pub pays : (s : State) (b : Block) (pool owed : ℕ) → Sound s → step s b ≢ Err (pool_short pool owed)
-  pub within : (s : State) (b : Block) (place : ℕ) (rule : Rule) → Sound s → step s b ≡ Err (broken place rule) → rule.number ≢ 41
+  pub within : (s : State) (b : Block) (place : ℕ) (rule : Rule) → Sound s → step s b ≡ Err (broken place rule) → IsOtherRule rule

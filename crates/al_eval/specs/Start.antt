@@ -11,8 +11,8 @@ use Rattle.al_rows.specs.declared.row.Row.TheVariants as row
 use Rattle.al_rows.specs.declared.stored.Stored.{Stored}
 use Rattle.al_rows.specs.Finite.{set_at}
 use Rattle.al_rows.specs.Rows.{unless_zero}
-use Rattle.al_eval.specs.declared.genesis.GenesisRow.{GenesisRow}
-use Rattle.al_eval.specs.declared.genesis.Genesis.{Genesis}
+use Rattle.al_genesis.specs.declared.genesis.GenesisRow.{GenesisRow}
+use Rattle.al_genesis.specs.declared.genesis.Genesis.{Genesis}
 use Rattle.al_eval.specs.Next.{stored_at}
 use Rattle.al_eval.specs.State.{State}
 

@@ -25,9 +25,9 @@ use Rattle.al_moves.specs.Money.{counts}
 use Rattle.al_eval.specs.declared.before.Before.{Before}
 use Rattle.al_eval.specs.declared.next.Stepped.{Stepped}
 use Rattle.al_eval.specs.declared.before.EvalRefusal.{EvalRefusal}
-use Rattle.al_eval.specs.declared.before.EvalRefusal.TheVariants as answer
 use Rattle.al_eval.specs.Past.{entry_of}
-use Rattle.al_eval.specs.Steps.{Refusal, broken, header, pool_short, block_rows}
+use Rattle.al_eval.specs.Refusals.{Refusal, IsDue, refusal_of}
+use Rattle.al_eval.specs.Steps.{block_rows}
 
 -- what is fixed of the chain, the header of the last block, the rows with the rounds that changed them last, and all transactions so far in order
 pub record State : Type 0 where
@@ -90,11 +90,7 @@ IsPay b = ⊥
 -- the rows and the totals of the state that is due, or the refusal that is due
 abbrev pub Steps : {F : Type 0} → Result State Refusal → Result Stepped (EvalRefusal F) → Type 0
 Steps due (Ok n) = (s : State) × (due ≡ Ok s) × (s.rows ≡ from_entries n.rows.entries) × (n.totals ≡ counts_in s)
-Steps due (Err (answer.Broken p r)) = due ≡ Err (broken p r)
-Steps due (Err (answer.Header f)) = due ≡ Err (header f)
-Steps due (Err (answer.PoolShort p o)) = due ≡ Err (pool_short p o)
-Steps due (Err (answer.View f)) = ⊤
-Steps due (Err answer.Memory) = ⊤
+Steps due (Err e) = IsDue due (refusal_of e)
 
 -- ---- laws
 

@@ -1,18 +1,33 @@
 //! A group of transactions, before any of them changes anything.
 ghost use Rattle.std.specs.Prelude.{◌≡◌, ◌+◌, ◌-◌, ◌≤◌, ◌<◌, ◌^◌, min, length, drop, IfOk};
-ghost use Rattle.al_eval.specs.Steps.{Opens, form_rule, forms_fault, group_fault, group_id_fault, pool_fault, pooled, size_fault};
+ghost use Rattle.al_eval.specs.Refusals.{Answers, LooksAtNone};
+ghost use Rattle.al_eval.specs.Groups.{needed, opened, size_of, form_rule, forms_fault, group_fault, group_id_fault, pool_fault, pooled, size_fault};
 
 use crate::EvalRefusal;
 use al_block::{Block, group_end};
 use al_moves::Rule;
-use al_txn::{Chain, Item, group_id, well_formed};
+use al_txn::{Chain, Effect, Item, group_id, well_formed};
 use std::alloc::{AllocError, Global};
 
 // The most members of a group.
 const MOST_MEMBERS: usize = 16;
 
 // The least fee of a transaction, in microAlgos.
-const MIN_FEE: u64 = 1_000;
+const LEAST_FEE: u64 = 1_000;
+
+/// How many transactions an entry of the payset is: its own, and the inner ones.
+pub fn size_of(item: &Item) -> u64
+    ensures value { result ≡ size_of item.now }
+    ensures bound { result ≤ 2 ^ 63 }
+{
+    let mut size: u64 = 1;
+    for effect in item.effects.as_slice() {
+        if matches!(effect, Effect::Inner(_)) {
+            size += 1;
+        }
+    }
+    size
+}
 
 // 34: there are too many members.
 fn size_fault(group: &[Item]) -> Option<Rule>
@@ -75,13 +90,23 @@ fn pooled(group: &[Item]) -> u64
     fees
 }
 
+// The least fees of a group, in microAlgos, or the greatest number.
+fn needed(group: &[Item]) -> u64
+    ensures { result ≡ needed group.now }
+{
+    let mut count: u64 = 0;
+    for item in group {
+        count = count.saturating_add(size_of(item));
+    }
+    count.saturating_mul(LEAST_FEE)
+}
+
 // 36: the fees are too low.
 fn pool_fault(group: &[Item]) -> Option<Rule>
-    requires { length group.now ≤ 16 }
     ensures { result ≡ pool_fault group.now }
 {
     let fees = pooled(group);
-    let needs = MIN_FEE * group.len() as u64;
+    let needs = needed(group);
     if fees < needs {
         Some(Rule::too_few(36, fees, needs))
     } else {
@@ -90,7 +115,7 @@ fn pool_fault(group: &[Item]) -> Option<Rule>
 }
 
 // The first rule that the group at this place breaks, and the place of who breaks it.
-#[tactic(auto, unfolding(crate::specs::Steps::group_fault))]
+#[tactic(auto, unfolding(crate::specs::Groups::group_fault))]
 fn group_fault(
     alloc: Global,
     chain: &Chain,
@@ -125,7 +150,8 @@ pub fn open<F>(
     block: &Block,
 ) -> Result<usize, EvalRefusal<F>>
     requires { place < length block.now.items }
-    ensures { Opens chain.now place left (drop place block.now.items) result }
+    ensures answers { Answers (opened chain.now place left (drop place block.now.items)) result }
+    ensures unseen { LooksAtNone result }
 {
     if left > 0 {
         return Ok(left - 1);

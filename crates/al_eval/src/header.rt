@@ -1,13 +1,13 @@
 //! The header of a block, against what is due after the block before.
 ghost use Rattle.std.specs.Prelude.{◌≡◌, ◌+◌, nat_eq, nat_le, ◌||◌, ◌&&◌, None, Option, length};
-ghost use Rattle.al_eval.specs.Steps.{first_fault, header_checks, is_in_time, rewards_checks};
+ghost use Rattle.al_eval.specs.Header.{first_fault, header_checks, is_in_time, rewards_checks};
 
 use crate::Before;
 use al_block::{Field, Header};
 use al_rewards::RewardsState;
 
 /// The first header field beside rewards that differs from what is due.
-#[tactic(auto, unfolding(crate::specs::Steps::header_checks))]
+#[tactic(auto, unfolding(crate::specs::Header::header_checks))]
 pub fn header_fault(before: &Before, h: &Header) -> Option<Field>
     ensures first { result ≡ first_fault (header_checks before.now h.now) }
     ensures round { result ≡ None → h.now.round ≡ before.now.header.round + 1 }
@@ -36,7 +36,7 @@ pub fn header_fault(before: &Before, h: &Header) -> Option<Field>
 }
 
 /// The first rewards field that differs from what is due.
-#[tactic(auto, unfolding(crate::specs::Steps::rewards_checks))]
+#[tactic(auto, unfolding(crate::specs::Header::rewards_checks))]
 pub fn rewards_fault(due: &RewardsState, h: &Header) -> Option<Field>
     ensures { result ≡ first_fault (rewards_checks due.now h.now) }
 {
@@ -62,8 +62,8 @@ fn is_in_time(last: u64, ts: u64) -> bool
     last == 0 || last <= ts && is_at_most_sum(ts, last, 25)
 }
 
-/// Whether a number is the sum of two.
-pub fn is_sum(sum: u64, a: u64, b: u64) -> bool
+// Whether a number is the sum of two.
+fn is_sum(sum: u64, a: u64, b: u64) -> bool
     ensures { result ≡ nat_eq sum (a + b) }
 {
     match a.checked_add(b) {

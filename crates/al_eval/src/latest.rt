@@ -2,7 +2,7 @@
 ghost use Rattle.std.specs.Prelude.{◌≡◌, Some, None, IsSome, OnOk, OnErr, cond};
 ghost use Rattle.std.specs.BTreeMap.{is_at};
 ghost use Rattle.al_eval.specs.Past.{later};
-ghost use Rattle.al_eval.specs.Latest.{at, mark_cmp, raised};
+ghost use Rattle.al_eval.specs.Latest.{at, id_mark, lease_mark, mark_cmp, raised};
 
 use crate::Entry;
 use al_base::{Address, Hash};
@@ -73,27 +73,35 @@ impl Latest {
         }
     }
 
-    // The round under a mark is at least this one from now on.
-    fn raise_one(&mut self, mark: &Mark, last: u64) -> Result<(), AllocError>
+    // The round under a mark, which is known, is at least this one from now on.
+    fn raise_one(&mut self, mark: &Mark, last: u64, before: Option<u64>) -> Result<(), AllocError>
+        requires { before ≡ at self.old.rounds.entries mark.now }
         ensures ok { OnOk result ((q : _) → at self.new.rounds.entries q ≡ cond (is_at (mark_cmp mark.now) q) (Some (later last (at self.old.rounds.entries mark.now))) (at self.old.rounds.entries q)) }
         ensures err { OnErr result (self.new.rounds.entries ≡ self.old.rounds.entries) }
     {
-        let last = later(last, self.last(mark));
-        self.put(mark, last)
+        self.put(mark, later(last, before))
     }
 
-    /// The rounds with one entry more. A refused call leaves them.
-    pub fn raise(&mut self, entry: &Entry) -> Result<(), AllocError>
+    /// The rounds with one entry more, where it is known what stands under its marks. A refused
+    /// call leaves them.
+    pub fn raise(
+        &mut self,
+        entry: &Entry,
+        id_before: Option<u64>,
+        lease_before: Option<u64>,
+    ) -> Result<(), AllocError>
+        requires id { id_before ≡ at self.old.rounds.entries (id_mark entry.now) }
+        requires lease { lease_before ≡ at self.old.rounds.entries (lease_mark entry.now) }
         ensures ok { OnOk result ((q : _) → at self.new.rounds.entries q ≡ raised entry.now (at self.old.rounds.entries) q) }
         ensures err { OnErr result ((q : _) → at self.new.rounds.entries q ≡ at self.old.rounds.entries q) }
     {
         let id = entry.id_mark();
-        let before = self.last(&id);
-        self.raise_one(&id, entry.last)?;
-        match self.raise_one(&entry.lease_mark(), entry.last) {
+        let lease = entry.lease_mark();
+        self.raise_one(&id, entry.last, id_before)?;
+        match self.raise_one(&lease, entry.last, lease_before) {
             Ok(()) => Ok(()),
             Err(refused) => {
-                self.put_back(&id, before);
+                self.put_back(&id, id_before);
                 Err(refused)
             }
         }

@@ -1,7 +1,8 @@
 //! What the pool pays at the start of a block.
 ghost use Rattle.std.specs.Prelude.{◌≡◌, ◌≤◌, ◌<◌, ◌-◌, ◌^◌, true, IfOk};
 ghost use Rattle.al_rows.specs.Rows.{AccountInRange, account};
-ghost use Rattle.al_eval.specs.Steps.{Runs, Sees, owed_by, pool_paid, rewards_due, rewards_of};
+ghost use Rattle.al_eval.specs.Answers.{Runs, Sees};
+ghost use Rattle.al_eval.specs.Pool.{owed_by, pool_paid, rewards_due, rewards_of};
 
 use crate::{Before, EvalRefusal};
 use al_base::{Address, Key};
@@ -66,7 +67,7 @@ pub fn owed_by(before: &Before, units: u64, h: &Header) -> u128
 }
 
 /// The pool pays what is owed, and keeps its least.
-#[tactic(auto, unfolding(crate::specs::Steps::pool_paid))]
+#[tactic(auto, unfolding(crate::specs::Pool::pool_paid))]
 pub fn pay_pool<V: RowView>(
     work: &mut Work<V>,
     pool: &Address,

@@ -1,53 +1,67 @@
 //! The step of a block over a view.
-ghost use Rattle.std.specs.Prelude.{◌≡◌, ◌≤◌, ◌+◌, ◌^◌, true, Ok, IfOk, IfSome, OnOk, map, All, length};
+ghost use Rattle.std.specs.Prelude.{◌≡◌, ◌≤◌, ◌+◌, ◌^◌, true, Ok, IfOk, IfSome, OnOk, map, All};
+ghost use Rattle.std.specs.Ordering.{nat_cmp};
 ghost use Rattle.std.specs.List.Sorted.{IsStrictlySortedBy};
-ghost use Rattle.al_base.specs.Keys.{key_cmp};
+ghost use Rattle.al_base.specs.Keys.{address_cmp, key_cmp};
+ghost use Rattle.al_block.specs.Hashes.{payset_hash_of};
 ghost use Rattle.al_rows.specs.Rows.{IsKept, bare};
-ghost use Rattle.al_eval.specs.Past.{entry_of};
+ghost use Rattle.al_eval.specs.Past.{entry_of, live};
 ghost use Rattle.al_eval.specs.Sound.{IsStep, Sound};
 ghost use Rattle.al_eval.specs.State.{State, before_of};
-ghost use Rattle.al_eval.specs.Steps.{Evals, IsCounted, IsDeltaOf, Runs, TotalsFollow, block_rows, counter_fault, payset_fault, units_before, unless_fault};
+ghost use Rattle.al_eval.specs.Refusals.{IsCounted};
+ghost use Rattle.al_eval.specs.Header.{counter_fault, payset_fault};
+ghost use Rattle.al_eval.specs.Pool.{units_before};
+ghost use Rattle.al_eval.specs.Steps.{block_rows};
+ghost use Rattle.al_eval.specs.Answers.{Evals, IsDeltaOf, Runs, TotalsFollow};
+ghost use Rattle.al_eval.specs.Evaluated.{delta_in};
 
-use crate::header::{header_fault, is_sum, rewards_fault};
+use crate::header::{header_fault, rewards_fault};
 use crate::lent::Lent;
 use crate::pool::{owed_by, pay_pool, rewards_due};
+use crate::tail::entries_with;
 use crate::transact::all_items;
-use crate::{Before, EvalRefusal, Tail};
-use al_base::{CreatorChanges, OnlineChanges};
-use al_block::{Block, Field, header_hash, payset_hash};
+use crate::{Before, Entry, EvalRefusal, Tail};
+use al_base::{CreatorChanges, Hash, OnlineChanges};
+use al_block::{Block, Field, Header, header_hash, payset_hashes};
 use al_deltas::RoundDelta;
 use al_moves::Work;
 use al_rewards::Totals;
 use al_rows::{Changes, RowView};
 use std::alloc::{AllocError, Global};
 
+/// What a block changes, and what is kept of its transactions.
+#[derive(Drop)]
+pub struct Evaluated {
+    /// What it changes.
+    pub delta: RoundDelta,
+    /// What is kept of each of its transactions, in order.
+    pub entries: Vec<Entry>,
+}
+
 // Whether the header's digest of the payset is not what is due.
-fn payset_fault(alloc: Global, block: &Block) -> Result<Option<Field>, AllocError>
-    ensures { IfOk result (λ f. f ≡ payset_fault block.now) }
+fn payset_fault(block: &Block, digest: &Hash) -> Option<Field>
+    requires { digest.now ≡ payset_hash_of block.now.items }
+    ensures { result ≡ payset_fault block.now }
 {
-    if block.header.payset == payset_hash(alloc, block)? {
-        Ok(None)
+    if block.header.payset == *digest {
+        None
     } else {
-        Ok(Some(Field::Txn))
+        Some(Field::Txn)
     }
 }
 
 // Whether the header's counter is not what is due.
-fn counter_fault(before: &Before, block: &Block) -> Option<Field>
-    ensures { result ≡ counter_fault before.now block.now }
+fn counter_fault(header: &Header, counter: u128) -> Option<Field>
+    ensures { result ≡ counter_fault header.now counter }
 {
-    if is_sum(
-        block.header.counter,
-        before.header.counter,
-        block.items.len() as u64,
-    ) {
+    if u128::from(header.counter) == counter {
         None
     } else {
         Some(Field::Tc)
     }
 }
 
-// The whole step over a work.
+// The whole step over a work: what is kept of the transactions.
 #[tactic(auto, unfolding(crate::specs::Steps::block_rows))]
 fn block_rows<V: RowView>(
     alloc: Global,
@@ -56,12 +70,13 @@ fn block_rows<V: RowView>(
     units: u64,
     past: &Tail,
     block: &Block,
-) -> Result<(), EvalRefusal<V::Fault>>
+) -> Result<Vec<Entry>, EvalRefusal<V::Fault>>
     requires level { work.old.level ≡ block.now.header.level }
     requires special { work.old.special ≡ before.now.chain.special }
     requires most { block.now.header.round ≤ 2 ^ 62 }
     ensures step { Runs V.tells (block_rows before.now units past.now block.now work.old.now) work.old work.new result }
     ensures round { OnOk result (block.now.header.round ≡ before.now.header.round + 1) }
+    ensures entries { IfOk result (λ es. es.items ≡ map (λ i. entry_of i.txn) block.now.items) }
 {
     let header = &block.header;
     if let Some(field) = header_fault(before, header) {
@@ -73,15 +88,19 @@ fn block_rows<V: RowView>(
     }
     let pool = &before.chain.special.pool;
     pay_pool(work, pool, owed_by(before, units, header))?;
-    match payset_fault(alloc, block) {
-        Ok(None) => {}
-        Ok(Some(field)) => return Err(EvalRefusal::Header { field }),
-        Err(AllocError) => return Err(EvalRefusal::Memory),
+    let Ok(hashes) = payset_hashes(alloc, block) else {
+        return Err(EvalRefusal::Memory);
+    };
+    if let Some(field) = payset_fault(block, &hashes.payset) {
+        return Err(EvalRefusal::Header { field });
     }
-    all_items(alloc, work, &before.chain, past, block)?;
-    match counter_fault(before, block) {
+    let Ok(entries) = entries_with(alloc, block.items.as_slice(), hashes.ids.as_slice()) else {
+        return Err(EvalRefusal::Memory);
+    };
+    let counter = all_items(alloc, work, before, past, block, entries.as_slice())?;
+    match counter_fault(header, counter) {
         Some(field) => Err(EvalRefusal::Header { field }),
-        None => Ok(()),
+        None => Ok(entries),
     }
 }
 
@@ -93,6 +112,8 @@ fn delta_of(
     totals: Totals,
 ) -> Result<RoundDelta, AllocError>
     ensures changes { IfOk result (λ d. changes ≡ Ok d.changes) }
+    ensures creators { IfOk result (λ d. IsStrictlySortedBy nat_cmp (map (λ c. c.id) d.creators)) }
+    ensures online { IfOk result (λ d. IsStrictlySortedBy address_cmp (map (λ c. c.address) d.online)) }
     ensures header { IfOk result (λ d. IsDeltaOf block.now.header d) }
     ensures totals { IfOk result (λ d. d.totals ≡ totals) }
 {
@@ -115,18 +136,21 @@ fn eval_over<V: RowView>(
     before: &Before,
     past: &Tail,
     block: &Block,
-    answer: &mut Result<RoundDelta, EvalRefusal<V::Fault>>,
+    answer: &mut Result<Evaluated, EvalRefusal<V::Fault>>,
 ) -> V
     requires { block.now.header.round ≤ 2 ^ 62 }
     ensures lender { V.lender result ≡ V.lender view }
     ensures same { V.tells ≡ true → V.rows result ≡ V.rows view }
-    ensures step { V.tells ≡ true → Evals (block_rows before.now (units_before before.now) past.now block.now (V.rows view)) (V.rows view) answer.new }
-    ensures totals { V.tells ≡ true → TotalsFollow (block_rows before.now (units_before before.now) past.now block.now (V.rows view)) before.now block.now.header (V.rows view) answer.new }
+    ensures step { V.tells ≡ true → Evals (block_rows before.now (units_before before.now) past.now block.now (V.rows view)) (V.rows view) (delta_in answer.new) }
+    ensures totals { V.tells ≡ true → TotalsFollow (block_rows before.now (units_before before.now) past.now block.now (V.rows view)) before.now block.now.header (V.rows view) (delta_in answer.new) }
     ensures cause { IsCounted answer.new (V.failures view) (V.failures result) }
-    ensures ordered { IfOk answer.new (λ d. IsStrictlySortedBy key_cmp (map (λ c. c.key) d.changes)) }
-    ensures kept { IfOk answer.new (λ d. All (λ c. IfSome c.row (IsKept c.key)) d.changes) }
-    ensures header { IfOk answer.new (IsDeltaOf block.now.header) }
-    ensures next { IfOk answer.new (λ d. d.round ≡ before.now.header.round + 1) }
+    ensures entries { IfOk answer.new (λ e. e.entries.items ≡ map (λ i. entry_of i.txn) block.now.items) }
+    ensures ordered { IfOk answer.new (λ e. IsStrictlySortedBy key_cmp (map (λ c. c.key) e.delta.changes)) }
+    ensures kept { IfOk answer.new (λ e. All (λ c. IfSome c.row (IsKept c.key)) e.delta.changes) }
+    ensures creators { IfOk answer.new (λ e. IsStrictlySortedBy nat_cmp (map (λ c. c.id) e.delta.creators)) }
+    ensures online { IfOk answer.new (λ e. IsStrictlySortedBy address_cmp (map (λ c. c.address) e.delta.online)) }
+    ensures header { IfOk answer.new (λ e. IsDeltaOf block.now.header e.delta) }
+    ensures next { IfOk answer.new (λ e. e.delta.round ≡ before.now.header.round + 1) }
 {
     let header = &block.header;
     let mut work = Work::new(
@@ -144,12 +168,40 @@ fn eval_over<V: RowView>(
     let (changes, view) = work.end();
     *answer = match run {
         Err(refusal) => Err(refusal),
-        Ok(()) => match delta_of(alloc, block, changes, totals) {
-            Ok(delta) => Ok(delta),
+        Ok(entries) => match delta_of(alloc, block, changes, totals) {
+            Ok(delta) => Ok(Evaluated { delta, entries }),
             Err(_) => Err(EvalRefusal::Memory),
         },
     };
     view
+}
+
+/// The step of a block over a view, as `eval` says, with what is kept of its transactions, so that
+/// it need not be made again where the block is appended to the tail.
+pub fn eval_with_entries<V: RowView>(
+    alloc: Global,
+    view: &mut V,
+    before: &Before,
+    tail: &Tail,
+    block: &Block,
+) -> Result<Evaluated, EvalRefusal<V::Fault>>
+    requires { block.now.header.round ≤ 2 ^ 62 }
+    ensures step { V.tells ≡ true → Evals (block_rows before.now (units_before before.now) tail.now block.now (V.rows view.old)) (V.rows view.old) (delta_in result) }
+    ensures totals { V.tells ≡ true → TotalsFollow (block_rows before.now (units_before before.now) tail.now block.now (V.rows view.old)) before.now block.now.header (V.rows view.old) (delta_in result) }
+    ensures sound { V.tells ≡ true → (s : State) → before.now ≡ before_of s → live block.now.header.round tail.now ≡ live block.now.header.round (map entry_of s.past) → V.rows view.old ≡ bare s.rows → Sound s → IsStep s block.now (delta_in result) }
+    ensures cause { IsCounted result (V.failures view.old) (V.failures view.new) }
+    ensures same { V.tells ≡ true → V.rows view.new ≡ V.rows view.old }
+    ensures entries { IfOk result (λ e. e.entries.items ≡ map (λ i. entry_of i.txn) block.now.items) }
+    ensures ordered { IfOk result (λ e. IsStrictlySortedBy key_cmp (map (λ c. c.key) e.delta.changes)) }
+    ensures kept { IfOk result (λ e. All (λ c. IfSome c.row (IsKept c.key)) e.delta.changes) }
+    ensures creators { IfOk result (λ e. IsStrictlySortedBy nat_cmp (map (λ c. c.id) e.delta.creators)) }
+    ensures online { IfOk result (λ e. IsStrictlySortedBy address_cmp (map (λ c. c.address) e.delta.online)) }
+    ensures header { IfOk result (λ e. IsDeltaOf block.now.header e.delta) }
+    ensures next { IfOk result (λ e. e.delta.round ≡ before.now.header.round + 1) }
+{
+    let mut answer = Err(EvalRefusal::Memory);
+    let _lent = eval_over(alloc, Lent { view }, before, tail, block, &mut answer);
+    answer
 }
 
 /// The step of a block over a view: what it changes, or the first refusal. It follows the Algorand
@@ -158,8 +210,8 @@ fn eval_over<V: RowView>(
 /// at as a whole, and then each of its members in order. Bodies other than payments do nothing, and
 /// the list of expired accounts is not looked at. `before` tells the totals at the level of the
 /// last block; those of the delta are at the new level. Over a sound state, with what is known of
-/// it, this is the ledger's step: the state after it is sound, all its money stays, and the block is
-/// never refused because the pool could not pay.
+/// it, and a tail with its live entries, this is the ledger's step: the state after it is sound,
+/// all its money stays, and the block is never refused because the pool could not pay.
 pub fn eval<V: RowView>(
     alloc: Global,
     view: &mut V,
@@ -170,15 +222,18 @@ pub fn eval<V: RowView>(
     requires { block.now.header.round ≤ 2 ^ 62 }
     ensures step { V.tells ≡ true → Evals (block_rows before.now (units_before before.now) tail.now block.now (V.rows view.old)) (V.rows view.old) result }
     ensures totals { V.tells ≡ true → TotalsFollow (block_rows before.now (units_before before.now) tail.now block.now (V.rows view.old)) before.now block.now.header (V.rows view.old) result }
-    ensures sound { V.tells ≡ true → (s : State) → before.now ≡ before_of s → tail.now ≡ map entry_of s.past → V.rows view.old ≡ bare s.rows → Sound s → IsStep s block.now result }
+    ensures sound { V.tells ≡ true → (s : State) → before.now ≡ before_of s → live block.now.header.round tail.now ≡ live block.now.header.round (map entry_of s.past) → V.rows view.old ≡ bare s.rows → Sound s → IsStep s block.now result }
     ensures cause { IsCounted result (V.failures view.old) (V.failures view.new) }
     ensures same { V.tells ≡ true → V.rows view.new ≡ V.rows view.old }
     ensures ordered { IfOk result (λ d. IsStrictlySortedBy key_cmp (map (λ c. c.key) d.changes)) }
     ensures kept { IfOk result (λ d. All (λ c. IfSome c.row (IsKept c.key)) d.changes) }
+    ensures creators { IfOk result (λ d. IsStrictlySortedBy nat_cmp (map (λ c. c.id) d.creators)) }
+    ensures online { IfOk result (λ d. IsStrictlySortedBy address_cmp (map (λ c. c.address) d.online)) }
     ensures header { IfOk result (IsDeltaOf block.now.header) }
     ensures next { IfOk result (λ d. d.round ≡ before.now.header.round + 1) }
 {
-    let mut answer = Err(EvalRefusal::Memory);
-    let _lent = eval_over(alloc, Lent { view }, before, tail, block, &mut answer);
-    answer
+    match eval_with_entries(alloc, view, before, tail, block) {
+        Ok(evaluated) => Ok(evaluated.delta),
+        Err(refusal) => Err(refusal),
+    }
 }

@@ -11,9 +11,9 @@ ghost use Rattle.al_eval.specs.Next.{stored_at};
 ghost use Rattle.al_rewards.specs.Totals.{AreTotals};
 ghost use Rattle.al_eval.specs.Start.{start_rows, start_totals};
 
-use crate::genesis::GenesisRow;
 use crate::next::{put, take_away};
 use al_base::Key;
+use al_genesis::GenesisRow;
 use al_moves::share_of;
 use al_rewards::Totals;
 use al_rows::{Row, Stored};

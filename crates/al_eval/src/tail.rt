@@ -1,5 +1,6 @@
 //! The transactions that may stand in a chain no second time.
 ghost use Rattle.std.specs.Prelude.{◌≡◌, ◌++◌, ◌∷◌, ◌-◌, List, [], IfOk, OnOk, OnErr, length, map, take};
+ghost use Rattle.al_txn.specs.Ids.{txid_of};
 ghost use Rattle.al_eval.specs.declared.tail.Entry.{Entry};
 ghost use Rattle.al_eval.specs.Past.{entry_of, has_id, lease_until};
 ghost use Rattle.al_eval.specs.Latest.{Knows, at, id_mark, lease_mark};
@@ -30,12 +31,21 @@ impl Entry {
     pub fn of(alloc: Global, txn: &Txn) -> Result<Entry, AllocError>
         ensures { IfOk result (λ e. e ≡ entry_of txn.now) }
     {
-        Ok(Entry {
-            id: txid(alloc, txn)?,
+        let id = txid(alloc, txn)?;
+        Ok(Entry::with(id, txn))
+    }
+
+    /// What is kept of a transaction, whose id is known.
+    pub fn with(id: Hash, txn: &Txn) -> Entry
+        requires { id ≡ txid_of txn.now }
+        ensures { result ≡ entry_of txn.now }
+    {
+        Entry {
+            id,
             sender: txn.sender,
             lease: txn.lease,
             last: txn.last,
-        })
+        }
     }
 
     /// The mark of its id.
@@ -97,8 +107,9 @@ impl Tail {
         ensures ok { OnOk result (self.new ≡ self.old ++ entry ∷ []) }
         ensures err { OnErr result (self.new ≡ self.old) }
     {
-        self.kept.push(with_before(&self.latest, entry))?;
-        match self.latest.raise(&entry) {
+        let kept = with_before(&self.latest, entry);
+        self.kept.push(kept)?;
+        match self.latest.raise(&entry, kept.id_before, kept.lease_before) {
             Ok(()) => Ok(()),
             Err(refused) => {
                 self.kept.pop();
@@ -127,8 +138,8 @@ impl Tail {
         }
     }
 
-    // Appends entries. A refused call leaves it as it was.
-    fn push_each(&mut self, entries: &[Entry]) -> Result<(), AllocError>
+    /// Appends entries. A refused call leaves it as it was.
+    pub fn append(&mut self, entries: &[Entry]) -> Result<(), AllocError>
         ensures ok { OnOk result (self.new ≡ self.old ++ entries.now) }
         ensures err { OnErr result (self.new ≡ self.old) }
     {
@@ -147,7 +158,7 @@ impl Tail {
         ensures err { OnErr result (self.new ≡ self.old) }
     {
         let more = entries_of(alloc, b.items.as_slice())?;
-        self.push_each(more.as_slice())
+        self.append(more.as_slice())
     }
 
     /// Takes back the block that was appended last, so that all is as before it. It takes no memory.
@@ -189,6 +200,18 @@ fn with_before(latest: &Latest, entry: Entry) -> Kept
         id_before: latest.last(&entry.id_mark()),
         lease_before: latest.last(&entry.lease_mark()),
     }
+}
+
+/// What is kept of each transaction of a block, whose ids are known.
+pub fn entries_with(alloc: Global, items: &[Item], ids: &[Hash]) -> Result<Vec<Entry>, AllocError>
+    requires { ids.now ≡ map (λ i. txid_of i.txn) items.now }
+    ensures { IfOk result (λ es. es.items ≡ map (λ i. entry_of i.txn) items.now) }
+{
+    let mut entries = Vec::new(alloc);
+    for (place, item) in items.iter().enumerate() {
+        entries.push(Entry::with(ids[place], &item.txn))?;
+    }
+    Ok(entries)
 }
 
 // What is kept of each transaction.

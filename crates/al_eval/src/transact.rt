@@ -1,11 +1,14 @@
 //! A transaction over the rows changed so far.
-ghost use Rattle.std.specs.Prelude.{◌≡◌, [], true};
+ghost use Rattle.std.specs.Prelude.{◌≡◌, ◌++◌, [], map, true};
 ghost use Rattle.al_moves.specs.Works.{Does, IsDone};
-ghost use Rattle.al_eval.specs.Past.{entry_of};
-ghost use Rattle.al_eval.specs.Steps.{Runs, all_items, applied, at_place, body_of, held_until, id_fault, item_fault, lease_fault, transacted, window_fault};
+ghost use Rattle.al_eval.specs.Past.{entry_of, later_of};
+ghost use Rattle.al_eval.specs.Items.{all_items, applied, at_place, held_until, id_fault, item_fault, lease_fault, transacted, window_fault};
+ghost use Rattle.al_eval.specs.Body.{done_by};
+ghost use Rattle.al_eval.specs.Turns.{context};
+ghost use Rattle.al_eval.specs.Answers.{Runs, RunsAll};
 
-use crate::group::open;
-use crate::{Entry, EvalRefusal, Tail};
+use crate::group::{open, size_of};
+use crate::{Before, Entry, EvalRefusal, Tail};
 use al_base::Hash;
 use al_block::Block;
 use al_moves::{Rule, Stop, Work};
@@ -14,6 +17,19 @@ use al_txn::{Body, Chain, Item, Txn};
 use std::alloc::Global;
 
 const NO_LEASE: Hash = [0; 32];
+
+/// Where a transaction stands.
+#[derive(Clone, Copy)]
+pub struct Turn<'a> {
+    /// The round of its block.
+    pub round: u64,
+    /// The number that it gives to what it creates.
+    pub next: u128,
+    /// Its entry of the payset.
+    pub item: &'a Item,
+    /// What is kept of it.
+    pub entry: &'a Entry,
+}
 
 // 32, 33: the round is outside the transaction's rounds.
 fn window_fault(round: u64, txn: &Txn) -> Option<Rule>
@@ -29,8 +45,9 @@ fn window_fault(round: u64, txn: &Txn) -> Option<Rule>
 }
 
 // 30: the transaction stands in the chain, or earlier in the block.
+#[tactic(auto, using(crate::proofs::Lives::id_both))]
 fn id_fault(round: u64, past: &Tail, seen: &Tail, entry: &Entry) -> Option<Rule>
-    ensures { result ≡ id_fault round past.now seen.now entry.now }
+    ensures { result ≡ id_fault round (past.now ++ seen.now) entry.now }
 {
     if past.has_id(round, &entry.id) || seen.has_id(round, &entry.id) {
         Some(Rule::plain(30))
@@ -39,22 +56,34 @@ fn id_fault(round: u64, past: &Tail, seen: &Tail, entry: &Entry) -> Option<Rule>
     }
 }
 
+// The later of two rounds that may be there.
+fn later_of(a: Option<u64>, b: Option<u64>) -> Option<u64>
+    ensures { result ≡ later_of a b }
+{
+    match (a, b) {
+        (Some(a), Some(b)) => Some(a.max(b)),
+        (Some(a), None) => Some(a),
+        (None, b) => b,
+    }
+}
+
 // The last round that a lease is held by the chain, or earlier in the block.
+#[tactic(auto, using(crate::proofs::Lives::lease_both))]
 fn held_until(round: u64, past: &Tail, seen: &Tail, entry: &Entry) -> Option<u64>
-    ensures { result ≡ held_until round past.now seen.now entry.now }
+    ensures { result ≡ held_until round (past.now ++ seen.now) entry.now }
 {
     if entry.lease == NO_LEASE {
         return None;
     }
-    if let Some(until) = past.lease_until(round, &entry.sender, &entry.lease) {
-        return Some(until);
-    }
-    seen.lease_until(round, &entry.sender, &entry.lease)
+    later_of(
+        past.lease_until(round, &entry.sender, &entry.lease),
+        seen.lease_until(round, &entry.sender, &entry.lease),
+    )
 }
 
 // 31: the sender's lease is held.
 fn lease_fault(round: u64, past: &Tail, seen: &Tail, entry: &Entry) -> Option<Rule>
-    ensures { result ≡ lease_fault round past.now seen.now entry.now }
+    ensures { result ≡ lease_fault round (past.now ++ seen.now) entry.now }
 {
     match held_until(round, past, seen, entry) {
         Some(until) => Some(Rule::held_until(31, until)),
@@ -63,24 +92,25 @@ fn lease_fault(round: u64, past: &Tail, seen: &Tail, entry: &Entry) -> Option<Ru
 }
 
 // The first rule that a member of a group breaks before it changes anything.
-#[tactic(auto, unfolding(crate::specs::Steps::item_fault))]
-fn item_fault(round: u64, past: &Tail, seen: &Tail, item: &Item, entry: &Entry) -> Option<Rule>
-    requires { entry.now ≡ entry_of item.now.txn }
-    ensures { result ≡ item_fault round past.now seen.now item.now }
+#[tactic(auto, unfolding(crate::specs::Items::item_fault))]
+fn item_fault(past: &Tail, seen: &Tail, turn: &Turn<'_>) -> Option<Rule>
+    requires { turn.now.entry.now ≡ entry_of turn.now.item.now.txn }
+    ensures { result ≡ item_fault turn.now.round (past.now ++ seen.now) turn.now.item.now }
 {
-    if let Some(rule) = window_fault(round, &item.txn) {
+    if let Some(rule) = window_fault(turn.round, &turn.item.txn) {
         return Some(rule);
     }
-    if let Some(rule) = id_fault(round, past, seen, entry) {
+    if let Some(rule) = id_fault(turn.round, past, seen, turn.entry) {
         return Some(rule);
     }
-    lease_fault(round, past, seen, entry)
+    lease_fault(turn.round, past, seen, turn.entry)
 }
 
 // The body of a transaction.
-fn do_body<V: RowView>(work: &mut Work<V>, txn: &Txn) -> Result<(), Stop<V::Fault>>
-    ensures { Does V.tells (body_of work.old.level txn.now work.old.now) work.old work.new result }
+fn do_body<V: RowView>(work: &mut Work<V>, turn: &Turn<'_>) -> Result<(), Stop<V::Fault>>
+    ensures { Does V.tells (done_by turn.now.item.now.txn.body (context work.old.level turn.now) work.old.now) work.old work.new result }
 {
+    let txn = &turn.item.txn;
     match &txn.body {
         Body::Pay(p) => work.pay(&txn.sender, p),
         Body::KeyReg(_) | Body::Config(_) | Body::Move(_) | Body::Freeze(_) | Body::App(_) => Ok(
@@ -90,55 +120,56 @@ fn do_body<V: RowView>(work: &mut Work<V>, txn: &Txn) -> Result<(), Stop<V::Faul
 }
 
 // What a transaction does: its fee, its rekey, its body, and then the minimum balances.
-#[tactic(auto, unfolding(crate::specs::Steps::applied))]
-fn apply<V: RowView>(work: &mut Work<V>, chain: &Chain, txn: &Txn) -> Result<(), Stop<V::Fault>>
+#[tactic(auto, unfolding(crate::specs::Items::applied))]
+fn apply<V: RowView>(
+    work: &mut Work<V>,
+    chain: &Chain,
+    turn: &Turn<'_>,
+) -> Result<(), Stop<V::Fault>>
     requires { work.old.special ≡ chain.now.special }
-    ensures { IsDone V.tells (applied chain.now work.old.level txn.now work.old.now) work.old work.new result }
+    ensures { IsDone V.tells (applied chain.now (context work.old.level turn.now) work.old.now) work.old work.new result }
 {
+    let txn = &turn.item.txn;
     work.begin();
     work.move_algos(&txn.sender, &chain.special.sink, txn.fee)?;
     work.rekey(&txn.sender, &txn.rekey)?;
-    do_body(work, txn)?;
+    do_body(work, turn)?;
     work.check_minimum()
 }
 
 // A whole transaction.
-#[tactic(auto, unfolding(crate::specs::Steps::transacted))]
+#[tactic(auto, unfolding(crate::specs::Items::transacted))]
 fn transact<V: RowView>(
     work: &mut Work<V>,
     chain: &Chain,
-    round: u64,
     past: &Tail,
     seen: &Tail,
-    item: &Item,
-    entry: &Entry,
+    turn: &Turn<'_>,
 ) -> Result<(), Stop<V::Fault>>
     requires special { work.old.special ≡ chain.now.special }
-    requires entry { entry.now ≡ entry_of item.now.txn }
-    ensures { IsDone V.tells (transacted chain.now round work.old.level past.now seen.now item.now work.old.now) work.old work.new result }
+    requires entry { turn.now.entry.now ≡ entry_of turn.now.item.now.txn }
+    ensures { IsDone V.tells (transacted chain.now (past.now ++ seen.now) (context work.old.level turn.now) work.old.now) work.old work.new result }
 {
-    if let Some(rule) = item_fault(round, past, seen, item, entry) {
+    if let Some(rule) = item_fault(past, seen, turn) {
         return Err(Stop::Rule(rule));
     }
-    apply(work, chain, &item.txn)
+    apply(work, chain, turn)
 }
 
 // A transaction at its place.
 fn transact_at<V: RowView>(
     work: &mut Work<V>,
     chain: &Chain,
-    round: u64,
     past: &Tail,
     seen: &Tail,
     place: usize,
-    item: &Item,
-    entry: &Entry,
+    turn: &Turn<'_>,
 ) -> Result<(), EvalRefusal<V::Fault>>
     requires special { work.old.special ≡ chain.now.special }
-    requires entry { entry.now ≡ entry_of item.now.txn }
-    ensures { Runs V.tells (at_place place (transacted chain.now round work.old.level past.now seen.now item.now work.old.now)) work.old work.new result }
+    requires entry { turn.now.entry.now ≡ entry_of turn.now.item.now.txn }
+    ensures { Runs V.tells (at_place place (transacted chain.now (past.now ++ seen.now) (context work.old.level turn.now) work.old.now)) work.old work.new result }
 {
-    match transact(work, chain, round, past, seen, item, entry) {
+    match transact(work, chain, past, seen, turn) {
         Ok(()) => Ok(()),
         Err(Stop::Rule(rule)) => Err(EvalRefusal::Broken { place, rule }),
         Err(Stop::View(fault)) => Err(EvalRefusal::View(fault)),
@@ -146,30 +177,40 @@ fn transact_at<V: RowView>(
     }
 }
 
-/// The groups of a block in order, and in each the transactions in order.
+/// The groups of a block in order, and in each the transactions in order, with what is kept of
+/// each: the count of all transactions of the chain.
 pub fn all_items<V: RowView>(
     alloc: Global,
     work: &mut Work<V>,
-    chain: &Chain,
+    before: &Before,
     past: &Tail,
     block: &Block,
-) -> Result<(), EvalRefusal<V::Fault>>
-    requires { work.old.special ≡ chain.now.special }
-    ensures { Runs V.tells (all_items chain.now block.now.header.round work.old.level past.now 0 [] 0 block.now.items work.old.now) work.old work.new result }
+    entries: &[Entry],
+) -> Result<u128, EvalRefusal<V::Fault>>
+    requires special { work.old.special ≡ before.now.chain.special }
+    requires entries { entries.now ≡ map (λ i. entry_of i.txn) block.now.items }
+    ensures { RunsAll V.tells (all_items before.now.chain work.old.level block.now.header.round 0 past.now before.now.header.counter 0 block.now.items work.old.now) work.old work.new result }
 {
+    let chain = &before.chain;
     let round = block.header.round;
-    let items = block.items.as_slice();
+    let mut counter = u128::from(before.header.counter);
     let mut seen = Tail::new(alloc);
     let mut left = 0;
-    for (place, item) in items.iter().enumerate() {
+    for (place, item) in block.items.as_slice().iter().enumerate() {
         left = open(alloc, chain, place, left, block)?;
-        let Ok(entry) = Entry::of(alloc, &item.txn) else {
-            return Err(EvalRefusal::Memory);
+        let next = counter + 1;
+        let entry = &entries[place];
+        let turn = Turn {
+            round,
+            next,
+            item,
+            entry,
         };
-        transact_at(work, chain, round, past, &seen, place, item, &entry)?;
-        if seen.push(entry).is_err() {
+        transact_at(work, chain, past, &seen, place, &turn)?;
+        if seen.push(*entry).is_err() {
             return Err(EvalRefusal::Memory);
         }
+        counter += u128::from(size_of(item));
     }
-    Ok(())
+    Ok(counter)
 }

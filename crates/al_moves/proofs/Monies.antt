@@ -302,6 +302,11 @@ refused_is : (level : ℕ) (m : RowMap) (o : Option Rule) → IsMinimum o → Is
 refused_is level m None h = refl
 refused_is level m (Some r) h = λ l e. absurd (omega arith)
 
+-- what lacks its minimum is refused by rule 42
+pub shortfall_number : (level : ℕ) (special : Special) (start m : RowMap) → IfSome (first_shortfall level special start m) (λ r. r.number ≡ 42)
+unfolding first_shortfall
+shortfall_number level special start m = first_is _ (keys m) (λ q. shortfall_is level special q (get start q) (get m q))
+
 pub checked_is : (level : ℕ) (special : Special) (start m : RowMap) → IsFair level m (checked level special start m)
 unfolding first_shortfall
 checked_is level special start m = refused_is level m (first_shortfall level special start m) (first_is _ (keys m) (λ q. shortfall_is level special q (get start q) (get m q)))

@@ -4,8 +4,8 @@ use Rattle.std.specs.Str.{bytes_eq}
 use mathlib.Core.List.{IsPrefix}
 use Rattle.al_base.specs.Causes.{Left, Wrote, Rose}
 use Rattle.al_base.specs.Folders.{FileMap}
-use Rattle.al_eval.specs.declared.genesis.Genesis.{Genesis}
-use Rattle.al_eval.specs.Genesis.{IsGenesis}
+use Rattle.al_genesis.specs.declared.genesis.Genesis.{Genesis}
+use Rattle.al_genesis.specs.Genesis.{IsGenesis}
 use Rattle.al_eval.specs.Start.{start}
 use Rattle.al_session.specs.Connection.{Serves}
 use Rattle.al_states.specs.Held.{Held, IsValid, KeepsMoney}

@@ -14,9 +14,9 @@ use Rattle.al_txn.specs.declared.chain.Chain.{Chain}
 use Rattle.al_block.specs.declared.header.Header.{Header}
 use Rattle.al_block.specs.Hashes.{header_hash_of}
 use Rattle.al_rows.specs.Rows.{IsKept}
-use Rattle.al_eval.specs.declared.genesis.GenesisFault.{GenesisFault}
-use Rattle.al_eval.specs.declared.genesis.GenesisFault.TheVariants as faults
-use Rattle.al_eval.specs.Genesis.{GenesisMeansUnless, number_of}
+use Rattle.al_genesis.specs.declared.genesis.GenesisFault.{GenesisFault}
+use Rattle.al_genesis.specs.declared.genesis.GenesisFault.TheVariants as faults
+use Rattle.al_genesis.specs.Genesis.{GenesisMeansUnless, number_of}
 use Rattle.al_eval.specs.State.{State, counts_in}
 use Rattle.al_eval.specs.Sound.{Sound}
 use Rattle.al_rewards.specs.declared.totals.Totals.{Totals}

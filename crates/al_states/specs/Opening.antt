@@ -1,9 +1,9 @@
 -- What a genesis file opens.
 use Rattle.std.specs.Prelude.{◌≡◌, ℕ, List, [], ⊤, Result, Ok, Err}
-use Rattle.al_eval.specs.declared.genesis.Genesis.{Genesis}
-use Rattle.al_eval.specs.declared.genesis.GenesisFault.{GenesisFault}
-use Rattle.al_eval.specs.declared.genesis.GenesisFault.TheVariants as read
-use Rattle.al_eval.specs.Genesis.{IsGenesis, GenesisMeans, number_of}
+use Rattle.al_genesis.specs.declared.genesis.Genesis.{Genesis}
+use Rattle.al_genesis.specs.declared.genesis.GenesisFault.{GenesisFault}
+use Rattle.al_genesis.specs.declared.genesis.GenesisFault.TheVariants as read
+use Rattle.al_genesis.specs.Genesis.{IsGenesis, GenesisMeans, number_of}
 use Rattle.al_eval.specs.Start.{start}
 use Rattle.al_states.specs.declared.states.States.{States}
 use Rattle.al_states.specs.declared.states.OpenFault.{OpenFault}

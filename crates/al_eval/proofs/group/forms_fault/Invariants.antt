@@ -1,5 +1,5 @@
 use Rattle.std.proofs.Common.{◌≡◌, ◌+◌, drop}
-use Rattle.al_eval.specs.Steps.{forms_fault}
+use Rattle.al_eval.specs.Groups.{forms_fault}
 use Rattle.al_eval.proofs.group.forms_fault.Given as goal
 
 abbrev pub invariant-loop-k : goal.invariant-loop-k

@@ -1,6 +1,6 @@
 use Rattle.std.proofs.Common.{◌≡◌, drop, ap, arith, []}
 use Rattle.std.proofs.lemmas.List.{drop_all}
-use Rattle.al_eval.specs.Steps.{pooled}
+use Rattle.al_eval.specs.Groups.{pooled}
 use Rattle.al_eval.proofs.group.pooled.Goals as goal
 
 pub returns : goal.returns

@@ -1,5 +1,5 @@
 use Rattle.std.proofs.Common.{◌≡◌, ◌≤◌, ◌+◌, ◌-◌, ◌^◌, min, drop}
-use Rattle.al_eval.specs.Steps.{pooled}
+use Rattle.al_eval.specs.Groups.{pooled}
 use Rattle.al_eval.proofs.group.pooled.Given as goal
 
 abbrev pub invariant-loop-item : goal.invariant-loop-item

@@ -1,10 +1,11 @@
-use Rattle.std.proofs.Common.{◌≡◌, ◌∙◌, ap, ap₂, sym, subst, ℕ, Ok, Err, map}
+use Rattle.std.proofs.Common.{◌≡◌, ◌∙◌, ap, ap₂, sym, subst, ℕ, Ok, Result, map}
 use Rattle.std.proofs.lemmas.Result.{IfOk-at_ok}
 use Rattle.al_rows.specs.Rows.{RowMap}
 use Rattle.al_moves.specs.Works.{Worked}
 use Rattle.al_moves.specs.Moves.{AreChanges, change_of}
-use Rattle.al_eval.specs.Steps.{Gives, block_rows}
-use Rattle.al_eval.proofs.Ends.{evals_err, totals_follow}
+use Rattle.al_eval.specs.Refusals.{Refusal, IsDue, refusal_of}
+use Rattle.al_eval.specs.Steps.{block_rows}
+use Rattle.al_eval.proofs.Ends.{totals_follow}
 use Rattle.al_eval.proofs.run.eval_over.Goals as goal
 use Rattle.al_eval.proofs.run.eval_over.Goals.{in-Err, in-Ok, in-Ok-delta_of, in-Err-delta_of}
 
@@ -16,14 +17,14 @@ returns-clause-step g c = λ t.
     let block : new.block ≡ rows = c.block_rows-run.ensures.step.fixed.block t ∙ ap (λ (w : Worked). w.block) c.new-work.ensures in
     let due = ap₂ (λ (u : ℕ) (m : RowMap). block_rows c.args.before.now u c.args.past.now c.args.block.now m) c.units-units.ensures old in
     elim c.match-run.branch [
-      | in-Err w ↦ rw w.t-32-is (evals_err (Unit {0}) _ rows new.now w.in-Err.refusal (subst (λ d. Gives {T = Unit {0}} d (Err w.in-Err.refusal) new.now) due (w.in-Err.ensures.step.gives t)))
-      | in-Ok w ↦ rw w.t-32-is (elim w.match-delta_of.branch [
-        | in-Ok-delta_of v ↦ rw v.t-36-is (
+      | in-Err w ↦ rw w.t-33-is (subst (λ (d : Result RowMap Refusal). IsDue d (refusal_of w.in-Err.refusal)) due (w.in-Err.ensures.step.gives t))
+      | in-Ok w ↦ rw w.t-33-is (elim w.match-delta_of.branch [
+        | in-Ok-delta_of v ↦ rw v.t-37-is (
           new.now,
           sym due ∙ w.in-Ok.ensures.step.gives t,
           subst (λ (m : RowMap). AreChanges m new.now (map change_of v.in-Ok-delta_of.delta.changes)) block (IfOk-at_ok (λ cs. AreChanges new.block new.now (map change_of cs)) (IfOk-at_ok (λ d. c.end-changes.result.0 ≡ Ok d.changes) v.in-Ok-delta_of.is w.delta_of.ensures.changes) (c.end-changes.ensures.changes t)),
         )
-        | in-Err-delta_of v ↦ rw v.t-36-is tt
+        | in-Err-delta_of v ↦ rw v.t-37-is tt
       ])
     ]
 
@@ -39,10 +40,10 @@ returns-clause-totals g c = λ t.
     let level : new.level ≡ c.args.block.now.header.level = c.block_rows-run.ensures.step.fixed.level ∙ ap (λ (w : Worked). w.level) c.new-work.ensures in
     let due = ap₂ (λ (u : ℕ) (m : RowMap). block_rows c.args.before.now u c.args.past.now c.args.block.now m) c.units-units.ensures old in
     elim c.match-run.branch [
-      | in-Err w ↦ rw w.t-32-is tt
-      | in-Ok w ↦ rw w.t-32-is (elim w.match-delta_of.branch [
-        | in-Ok-delta_of v ↦ rw v.t-36-is (totals_follow _ c.args.before.now c.args.block.now.header rows new c.raise.new.self c.totals-totals.result v.in-Ok-delta_of.delta (sym due ∙ w.in-Ok.ensures.step.gives t)
+      | in-Err w ↦ rw w.t-33-is tt
+      | in-Ok w ↦ rw w.t-33-is (elim w.match-delta_of.branch [
+        | in-Ok-delta_of v ↦ rw v.t-37-is (totals_follow _ c.args.before.now c.args.block.now.header rows new c.raise.new.self c.totals-totals.result v.in-Ok-delta_of.delta (sym due ∙ w.in-Ok.ensures.step.gives t)
             block level c.raise.ensures.exact (c.totals-totals.ensures t) (IfOk-at_ok (λ d. d.totals ≡ c.totals-totals.result) v.in-Ok-delta_of.is w.delta_of.ensures.totals))
-        | in-Err-delta_of v ↦ rw v.t-36-is tt
+        | in-Err-delta_of v ↦ rw v.t-37-is tt
       ])
     ]

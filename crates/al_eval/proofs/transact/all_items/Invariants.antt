@@ -1,10 +1,11 @@
-use Rattle.std.proofs.Common.{◌≡◌, true, drop, []}
+use Rattle.std.proofs.Common.{◌≡◌, ◌≤◌, ◌+◌, ◌*◌, ◌^◌, ◌++◌, true, drop}
 use Rattle.al_moves.specs.Works.{IsFixed}
-use Rattle.al_eval.specs.Steps.{all_items}
+use Rattle.al_eval.specs.Items.{all_items}
 use Rattle.al_eval.proofs.transact.all_items.Given as goal
 
 abbrev pub invariant-loop-place : goal.invariant-loop-place
 invariant-loop-place g l = record {
   fixed : IsFixed g.V.RowView.tells l.fn.work l.work;
-  rest : g.V.RowView.tells ≡ true → all_items l.chain l.round l.fn.work.level l.past l.place l.seen l.left (drop l.place l.items) l.work.now ≡ all_items l.chain l.round l.fn.work.level l.past 0 [] 0 l.items l.fn.work.now;
+  most : l.counter ≤ 2 ^ 64 + l.place * 2 ^ 63;
+  rest : g.V.RowView.tells ≡ true → all_items l.chain l.fn.work.level l.round l.place (l.past ++ l.seen) l.counter l.left (drop l.place l.block.items) l.work.now ≡ all_items l.chain l.fn.work.level l.round 0 l.past l.before.header.counter 0 l.block.items l.fn.work.now;
 }

@@ -1,4 +1,4 @@
-use Rattle.std.proofs.Common.{List, ℕ, Option, sym, subst, IsSome}
+use Rattle.std.proofs.Common.{◌≡◌, ◌∙◌, ap, List, ℕ, Option, sym, subst, IsSome}
 use Rattle.al_eval.specs.declared.latest.Mark.{Mark}
 use Rattle.al_eval.specs.Latest.{at}
 use Rattle.al_eval.proofs.Marks.{IsPut, put_there, put_undone, raised_both}
@@ -15,10 +15,11 @@ returns-in-Err-clause-err c =
     let old = c.args.self.now.rounds.entries in
     let mid = c.raise_one.new.self.rounds.entries in
     let end = c.put_back.new.self.rounds.entries in
-    let second : IsPut i c.last-before.result (at mid) (at end) = subst (λ (rs : List (Mark × ℕ)). IsPut i c.last-before.result (at rs) (at end)) c.in-Err.ensures.err c.put_back.ensures in
-    put_undone i _ (at old) (at mid) (at end) c.in_ok-raise_one.ensures.ok (subst (λ (o : Option ℕ). IsPut i o (at mid) (at end)) c.last-before.ensures second)
+    let before : c.args.id_before ≡ at old i = c.requires.id ∙ ap (at old) (sym c.id_mark-id.ensures) in
+    let second : IsPut i c.args.id_before (at mid) (at end) = subst (λ (rs : List (Mark × ℕ)). IsPut i c.args.id_before (at rs) (at end)) c.in-Err.ensures.err c.put_back.ensures in
+    put_undone i _ (at old) (at mid) (at end) c.in_ok-raise_one.ensures.ok (subst (λ (o : Option ℕ). IsPut i o (at mid) (at end)) before second)
 
 pub returns-in-Ok-clause-ok : goal.returns-in-Ok-clause-ok
 returns-in-Ok-clause-ok c =
-    raised_both c.args.entry.now c.id_mark-id.result c.lease_mark.result (at c.args.self.now.rounds.entries) (at c.raise_one.new.self.rounds.entries) (at c.raise_one-2.new.self.rounds.entries)
-    c.id_mark-id.ensures c.lease_mark.ensures c.in_ok-raise_one.ensures.ok c.in-Ok.ensures.ok
+    raised_both c.args.entry.now c.id_mark-id.result c.lease_mark-lease.result (at c.args.self.now.rounds.entries) (at c.raise_one.new.self.rounds.entries) (at c.raise_one-2.new.self.rounds.entries)
+    c.id_mark-id.ensures c.lease_mark-lease.ensures c.in_ok-raise_one.ensures.ok c.in-Ok.ensures.ok

@@ -1,0 +1,95 @@
+-- What a body must keep, and that each body does.
+use Rattle.std.proofs.Common.{◌≡◌, ap, ◌∙◌, ℕ, ◌+◌, ◌≤◌, Result, Ok, Err, false, arith, not}
+use Rattle.al_rows.specs.Rows.{RowMap, account, no_address}
+use Rattle.al_rewards.specs.Pending.{max_balance}
+use Rattle.al_bodies.specs.declared.body.Body.{Body}
+use Rattle.al_txn.specs.declared.chain.Chain.{Chain}
+use Rattle.al_moves.specs.declared.rule.Rule.{Rule}
+use Rattle.al_moves.specs.Moves.{then_do, same_address, paid}
+use Rattle.al_moves.specs.Money.{money, IsFair}
+use Rattle.al_moves.proofs.Monies.{moves_are_fair}
+use Rattle.al_eval.specs.Groups.{size_of}
+use Rattle.al_eval.specs.Body.{done_by, Context}
+use Rattle.al_base.specs.declared.account.Special.{Special}
+use Rattle.al_base.specs.declared.address.Address.{Address}
+use Rattle.al_eval.specs.Sound.{SoundRows, IsOtherRule}
+use Rattle.al_bodies.specs.declared.body.Pay.{Pay}
+use Rattle.al_eval.proofs.Steadies.{Holds, Calm, IsClose, keeps_itself, paid_holds, calm_steps, calm_close}
+use Rattle.al_eval.proofs.Agrees.{rows_kept}
+use Rattle.al_eval.proofs.Wells.{IsWell}
+use Rattle.al_bodies.specs.declared.body.Body.TheVariants as body
+
+-- ---- what stays so through the transactions of a block
+
+-- the rows are sound, all money stays, and the pool has no less than at the start
+pub record Kept (level : ℕ) (special : Special) (start : RowMap) (counter : ℕ) (now : RowMap) : Type 0 where
+  pub rows : SoundRows level counter special now
+  pub money : money level now ≡ money level start
+  pub pool : (account start special.pool).balance ≤ (account now special.pool).balance
+
+-- what holds of the rows after a step, and of the rule that refuses it
+abbrev pub Ends : (RowMap → Type 0) → Result RowMap Rule → Type 0
+Ends P (Ok n) = P n
+Ends P (Err r) = IsOtherRule r
+
+-- What a body must keep, as it is one of so many transactions, from a count of transactions on. Each body proves this of itself, and has one line in `body_good`
+abbrev pub IsGood : ℕ → Special → RowMap → ℕ → ℕ → (RowMap → Result RowMap Rule) → Type 0
+IsGood level special start counter size f = (m : RowMap) → Kept level special start counter m → Ends (Kept level special start (counter + size)) (f m)
+
+-- one step after another
+pub ends_then : (P Q : RowMap → Type 0) (due : Result RowMap Rule) (f : RowMap → Result RowMap Rule) → Ends P due → ((n : RowMap) → P n → Ends Q (f n)) → Ends Q (then_do due f)
+ends_then P Q (Ok n) f h g = g n h
+ends_then P Q (Err r) f h g = h
+
+-- the same with more transactions
+pub kept_more : (level : ℕ) (special : Special) (start : RowMap) (counter size : ℕ) (m : RowMap) → Kept level special start counter m → Kept level special start (counter + size) m
+kept_more level special start counter size m k =
+    let more : counter ≤ counter + size = omega arith in
+    let low : level ≤ level = omega arith in
+    record {
+      rows = rows_kept level level counter (counter + size) special m m (keeps_itself level m) k.rows low more k.rows.money k.rows.sink k.rows.pool;
+      money = k.money;
+      pool = k.pool;
+    }
+
+ends_more : (level : ℕ) (special : Special) (start : RowMap) (counter size : ℕ) (due : Result RowMap Rule) → Ends (Kept level special start counter) due → Ends (Kept level special start (counter + size)) due
+ends_more level special start counter size (Ok n) h = kept_more level special start counter size n h
+ends_more level special start counter size (Err r) h = h
+
+-- ---- moves, payments and rekeys
+
+calm_kept : (level : ℕ) (special : Special) (start : RowMap) (counter : ℕ) (m n : RowMap) → money level n ≡ money level m → Calm level special m n → Kept level special start counter m → Kept level special start counter n
+calm_kept level special start counter m n same c k =
+    let r = k.rows in
+    let p = c.pool r.pool in
+    let low : level ≤ level = omega arith in
+    let more : counter ≤ counter = omega arith in
+    let few : money level n ≤ max_balance = omega (arith, same, r.money) in
+    record {
+      rows = rows_kept level level counter counter special m n c.keeps r low more few (c.sink r.sink) p.0;
+      money = same ∙ k.money;
+      pool = omega (arith, k.pool, p.1);
+    }
+
+pub calm_ends : (level : ℕ) (special : Special) (start : RowMap) (counter : ℕ) (m : RowMap) (due : Result RowMap Rule) → IsFair level m due → Holds (Calm level special m) due → Kept level special start counter m → Ends (Kept level special start counter) due
+calm_ends level special start counter m (Ok n) fair calm k = calm_kept level special start counter m n fair calm k
+calm_ends level special start counter m (Err r) fair calm k = (fair k.rows.money, calm)
+
+none_good : (level : ℕ) (special : Special) (start : RowMap) (counter size : ℕ) → IsGood level special start counter size (λ m. Ok m)
+none_good level special start counter size m k = kept_more level special start counter size m k
+
+pay_good : (level : ℕ) (c : Chain) (who : Address) (p : Pay) (start : RowMap) (counter size : ℕ) → IsWell c who (body.Pay p) → IsGood level c.special start counter size (paid level who p)
+pay_good level c who p start counter size well m k =
+    let close : same_address p.close no_address ≡ false → IsClose (Calm level c.special) who = λ e. calm_close level c.special who well.pool (well.sink (ap not e)) in
+    ends_more level c.special start counter size (paid level who p m)
+    (calm_ends level c.special start counter m (paid level who p m) (moves_are_fair.paid level who p m) (paid_holds (Calm level c.special) level who (calm_steps level c.special who well.pool) p close m) k)
+
+-- ---- the dispatch
+
+pub body_good : (c : Chain) (x : Context) (b : Body) (start : RowMap) (counter : ℕ) → x.next ≡ counter + 1 → IsWell c x.item.txn.sender b → IsGood x.level c.special start counter (size_of x.item) (done_by b x)
+body_good c x (body.Pay p) start counter next well = pay_good x.level c x.item.txn.sender p start counter (size_of x.item) well
+body_good c x (body.KeyReg k) start counter next well = none_good x.level c.special start counter (size_of x.item)
+body_good c x (body.Config a) start counter next well = none_good x.level c.special start counter (size_of x.item)
+body_good c x (body.Move a) start counter next well = none_good x.level c.special start counter (size_of x.item)
+body_good c x (body.Freeze f) start counter next well = none_good x.level c.special start counter (size_of x.item)
+body_good c x (body.App a) start counter next well = none_good x.level c.special start counter (size_of x.item)

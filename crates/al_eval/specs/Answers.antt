@@ -1,0 +1,63 @@
+-- What the calls of a step answer.
+use Rattle.std.specs.Prelude.{◌≡◌, ℕ, map, Bool, true, ⊤}
+use Rattle.std.specs.declared.result.Result.{Result}
+use Rattle.std.specs.declared.result.Result.TheVariants.{Ok, Err}
+use Rattle.al_block.specs.declared.header.Header.{Header}
+use Rattle.al_deltas.specs.declared.delta.RoundDelta.{RoundDelta}
+use Rattle.al_block.specs.Hashes.{header_hash_of}
+use Rattle.al_rewards.specs.Totals.{raised}
+use Rattle.al_moves.specs.Money.{IsWithin, counts}
+use Rattle.al_rows.specs.Rows.{RowMap}
+use Rattle.al_moves.specs.Moves.{change_of, AreChanges}
+use Rattle.al_moves.specs.Works.{Worked, IsFixed}
+use Rattle.al_eval.specs.declared.before.Before.{Before}
+use Rattle.al_eval.specs.declared.before.EvalRefusal.{EvalRefusal}
+use Rattle.al_eval.specs.Refusals.{Refusal, refusal_of, IsDue, IsCounted, IsNoRefusal, header}
+use Rattle.al_eval.specs.Items.{Ran}
+
+-- ---- over a work
+
+-- the rows after a call are those that are due, or its refusal is the one that is due
+abbrev pub Gives : {F T : Type 0} → Result RowMap Refusal → Result T (EvalRefusal F) → RowMap → Type 0
+Gives due (Ok x) new = due ≡ Ok new
+Gives due (Err e) new = IsDue due (refusal_of e)
+
+pub record Runs {F T : Type 0} (tells : Bool) (due : Result RowMap Refusal) (old new : Worked) (result : Result T (EvalRefusal F)) : Type 0 where
+  pub fixed : IsFixed tells old new
+  pub gives : tells ≡ true → Gives due result new.now
+  pub cause : IsCounted result old.failures new.failures
+
+-- the same of all transactions of a block, which give the count of all
+abbrev pub GivesCount : {F : Type 0} → Result Ran Refusal → Result ℕ (EvalRefusal F) → RowMap → Type 0
+GivesCount due (Ok counter) new = due ≡ Ok (record { rows = new; counter = counter })
+GivesCount due (Err e) new = IsDue due (refusal_of e)
+
+pub record RunsAll {F : Type 0} (tells : Bool) (due : Result Ran Refusal) (old new : Worked) (result : Result ℕ (EvalRefusal F)) : Type 0 where
+  pub fixed : IsFixed tells old new
+  pub gives : tells ≡ true → GivesCount due result new.now
+  pub cause : IsCounted result old.failures new.failures
+
+-- a look changes no row
+pub record Sees {F T : Type 0} (tells : Bool) (old new : Worked) (result : Result T (EvalRefusal F)) : Type 0 where
+  pub fixed : IsFixed tells old new
+  pub now : tells ≡ true → new.now ≡ old.now
+  pub cause : IsCounted result old.failures new.failures
+  pub no_refusal : IsNoRefusal result
+
+-- ---- over a view
+
+-- the changes lead from the rows before to the rows that are due, or the refusal is the one that is due
+abbrev pub Evals : {F : Type 0} → Result RowMap Refusal → RowMap → Result RoundDelta (EvalRefusal F) → Type 0
+Evals due old (Ok d) = (n : RowMap) × (due ≡ Ok n) × AreChanges old n (map change_of d.changes)
+Evals due old (Err e) = IsDue due (refusal_of e)
+
+-- what a block changes goes with its header. Creators and online data change with stages to come
+pub record IsDeltaOf (h : Header) (d : RoundDelta) : Type 0 where
+  pub round : d.round ≡ h.round
+  pub header : d.header ≡ h
+  pub hash : d.hash ≡ header_hash_of h
+
+-- the totals of a delta are those of the rows that are due, counted anew at its level, where those before the block were, and there is not too much money to count
+abbrev pub TotalsFollow : {F : Type 0} → Result RowMap Refusal → Before → Header → RowMap → Result RoundDelta (EvalRefusal F) → Type 0
+TotalsFollow due s h old (Ok d) = (n : RowMap) → due ≡ Ok n → raised h.level s.totals ≡ counts h.level old → IsWithin h.level old → IsWithin h.level n → d.totals ≡ counts h.level n
+TotalsFollow due s h old (Err e) = ⊤
