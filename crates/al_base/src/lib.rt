@@ -16,6 +16,7 @@ mod quiet;
 mod sink;
 mod source;
 mod system;
+
 pub use account::{Special, Status};
 pub use address::{Address, Addresses, Hash};
 pub use asset::AssetParams;

@@ -3,7 +3,8 @@
 
 mod base32;
 mod counting;
-mod hashing;mod texts;
+mod hashing;
+mod texts;
 
 pub use counting::Steps;
 pub use hashing::{Prefix, digest, node_digest};
