@@ -14,8 +14,8 @@ use Rattle.al_base.specs.Keys.{key_cmp}
 use Rattle.al_rows.specs.declared.change.Change.{Change}
 use Rattle.al_rows.specs.declared.stored.Stored.{Stored}
 use Rattle.al_rows.specs.declared.row.Row.{Row}
-use Rattle.al_rows.specs.Finite.{or_below, overlaid}
-use Rattle.al_rows.specs.Rows.{IsKept}
+use Rattle.al_rows.specs.Finite.{or_below}
+use Rattle.al_rows.specs.Rows.{InRange, IsKept}
 use Rattle.al_rows.proofs.Keys.{keys_total, exact_keys}
 use Rattle.al_rows.proofs.Maps.{find-lookup, get-overlaid, entries_found}
 use Rattle.al_rows.proofs.Views.{get-of_entries, ranged-get, sorted}
@@ -104,6 +104,10 @@ all_kept rows ordered kept = All-from_recursion (λ (e : Key × Stored). IsKept 
     all_more : {A : Type 0} {P Q : A → Type 0} (xs : List A) → ((x : A) → P x → Q x) → AllByRecursion P xs → AllByRecursion Q xs
     all_more [] f h = tt
     all_more (x ∷ xs) f h = (f x h.0, all_more xs f h.1)
+
+-- rows that are kept are in their ranges
+pub ranged_rows : (es : List (Key × Stored)) → All (λ e. IsKept e.0 e.1.row) es → All (λ e. InRange e.0 e.1.row) es
+ranged_rows es h = λ k d fits. (h k d fits).0
 
 -- ---- rows as finite maps
 

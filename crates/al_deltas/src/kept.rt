@@ -7,12 +7,12 @@ ghost use Rattle.std.specs.Map.{lookup};
 ghost use Rattle.std.specs.BTreeMap.{IsOrdered, is_at};
 ghost use Rattle.al_base.specs.Keys.{key_cmp};
 ghost use Rattle.al_rows.specs.Finite.{or_below};
-ghost use Rattle.al_rows.specs.Rows.{IsKept};
+ghost use Rattle.al_rows.specs.Rows.{IsKept, bare};
 ghost use Rattle.al_deltas.specs.Queue.{IsKeptDelta, after_delta, left_of, stored_at};
 
 use crate::RoundDelta;
 use al_base::Key;
-use al_rows::{Change, Stored};
+use al_rows::{Change, Stored, StoredView};
 use std::alloc::{AllocError, Global};
 use std::collections::BTreeMap;
 use std::marker::Model;
@@ -52,12 +52,11 @@ impl KeptRows {
         KeptRows { alloc, rows }
     }
 
-    /// The rows as a map.
-    pub fn as_map(&self) -> &BTreeMap<Key, Stored>
-        ensures rows { from_entries result.now.entries ≡ self.now }
-        ensures kept { All (λ e. IsKept e.0 e.1.row) result.now.entries }
+    /// A view of the rows.
+    pub fn view<'a>(&'a self) -> StoredView<'a>
+        ensures { result ≡ bare self.now }
     {
-        &self.rows
+        StoredView::new(self.alloc, &self.rows)
     }
 
     /// The row under a key.

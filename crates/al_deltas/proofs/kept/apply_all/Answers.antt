@@ -1,5 +1,4 @@
 use Rattle.std.proofs.Common.{◌≡◌, ◌∙◌, sym, ap, subst, List, ◌∷◌, ◌+◌, map, drop, IfSome}
-use Rattle.al_base.specs.declared.key.Key.{Key}
 use Rattle.al_rows.specs.Finite.{or_below}
 use Rattle.al_rows.specs.Rows.{IsKept}
 use Rattle.al_rows.specs.declared.change.Change.{Change}

@@ -1,6 +1,5 @@
-use Rattle.std.proofs.Common.{◌≡◌, ◌∙◌, List, map, None, Some, sym, ap, subst}
+use Rattle.std.proofs.Common.{◌≡◌, ◌∙◌, None, Some, sym, ap, subst}
 use Rattle.std.specs.Option.{option_copied}
-use Rattle.al_rows.specs.declared.change.Change.{Change}
 use Rattle.al_deltas.specs.Queue.{changed_in}
 use Rattle.al_deltas.proofs.Queues.{find_step, find_here, change_kept, split_kept}
 use Rattle.al_deltas.proofs.Searches.{Rise}
