@@ -3,7 +3,7 @@ use Rattle.std.specs.BTreeMap.{get, is_at}
 use Rattle.al_base.specs.declared.key.Key.{Key}
 use Rattle.al_rows.specs.declared.stored.Stored.{Stored}
 use Rattle.al_rows.proofs.Keys.{derived_order}
-use Rattle.al_eval.proofs.next.take_away.Goals as goal
+use Rattle.al_deltas.proofs.kept.take_row.Goals as goal
 
 pub returns : goal.returns
 returns c =

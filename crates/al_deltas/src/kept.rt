@@ -1,0 +1,176 @@
+//! Rows that are kept, under their keys.
+ghost use Rattle.std.specs.Prelude.{◌≡◌, ◌≤◌, Some, None, All, IfSome, OnOk, OnErr, cond, map};
+ghost use Rattle.std.specs.Option.{option_copied};
+ghost use Rattle.std.specs.List.Sorted.{IsStrictlySortedBy};
+ghost use Rattle.std.specs.FinMap.{from_entries, get};
+ghost use Rattle.std.specs.Map.{lookup};
+ghost use Rattle.std.specs.BTreeMap.{IsOrdered, is_at};
+ghost use Rattle.al_base.specs.Keys.{key_cmp};
+ghost use Rattle.al_rows.specs.Finite.{or_below};
+ghost use Rattle.al_rows.specs.Rows.{IsKept, bare};
+ghost use Rattle.al_deltas.specs.Queue.{IsKeptDelta, after_delta, left_of, stored_at};
+
+use crate::RoundDelta;
+use al_base::Key;
+use al_rows::{Change, Stored, StoredView};
+use std::alloc::{AllocError, Global};
+use std::collections::BTreeMap;
+use std::marker::Model;
+
+/// Rows with the rounds of their last changes. Each is of its key's kind and in its ranges, and
+/// none is a zero row.
+#[derive(Drop)]
+pub struct KeptRows {
+    alloc: Global,
+    rows: BTreeMap<Key, Stored>,
+}
+
+impl Model for KeptRows {
+    ghost use Rattle.std.specs.Prelude.{All};
+    ghost use Rattle.std.specs.FinMap.{from_entries};
+    ghost use Rattle.std.specs.FinMap as finite;
+    ghost use Rattle.al_base.specs.contracts.key.Key as key;
+    ghost use Rattle.al_rows.specs.Rows.{IsKept};
+    ghost use Rattle.al_rows.specs.contracts.stored.Stored as stored;
+    ghost use Rattle.al_deltas.specs.Queue.{StoredMap};
+
+    ghost Value = { StoredMap };
+
+    ghost coded = { finite.code key.the_row.coded stored.the_row.coded };
+
+    ghost view = { λ r. from_entries r.rows.entries };
+
+    ghost invariant = { λ r. All (λ e. IsKept e.0 e.1.row) r.rows.entries };
+}
+
+impl KeptRows {
+    /// These rows, which may be kept.
+    pub fn new(alloc: Global, rows: BTreeMap<Key, Stored>) -> KeptRows
+        requires { All (λ e. IsKept e.0 e.1.row) rows.entries }
+        ensures { result ≡ from_entries rows.entries }
+    {
+        KeptRows { alloc, rows }
+    }
+
+    /// A view of the rows.
+    pub fn view<'a>(&'a self) -> StoredView<'a>
+        ensures { result ≡ bare self.now }
+    {
+        StoredView::new(self.alloc, &self.rows)
+    }
+
+    /// The row under a key.
+    pub fn get(&self, key: &Key) -> Option<&Stored>
+        ensures row { option_copied result ≡ get self.now key.now }
+        ensures kept { IfSome result (λ s. IsKept key.now s.now.row) }
+    {
+        row_under(&self.rows, key)
+    }
+
+    /// Puts the rows that a block leaves. A call that is refused has put a part of them: to put them
+    /// again gives what one call would have given. Errors: no memory.
+    pub fn apply(&mut self, d: &RoundDelta) -> Result<(), AllocError>
+        requires { IsKeptDelta d.now }
+        ensures ok { OnOk result (self.new ≡ after_delta d.now self.old) }
+        ensures again { after_delta d.now self.new ≡ after_delta d.now self.old }
+    {
+        apply(self.alloc, &mut self.rows, d.changes.as_slice(), d.round)?;
+        Ok(())
+    }
+}
+
+fn row_under<'a>(rows: &'a BTreeMap<Key, Stored>, key: &Key) -> Option<&'a Stored>
+    ensures { option_copied result ≡ lookup (is_at (key_cmp key.now)) rows.now.entries }
+{
+    rows.get(key)
+}
+
+// Puts changes of a round into rows that are kept.
+fn apply(
+    alloc: Global,
+    rows: &mut BTreeMap<Key, Stored>,
+    changes: &[Change],
+    round: u64,
+) -> Result<(), AllocError>
+    requires ordered { IsStrictlySortedBy key_cmp (map (λ c. c.key) changes.now) }
+    requires changed { All (λ c. IfSome c.row (IsKept c.key)) changes.now }
+    requires kept { All (λ e. IsKept e.0 e.1.row) rows.old.entries }
+    ensures ok { OnOk result ((q : _) → lookup (is_at (key_cmp q)) rows.new.entries ≡ or_below (lookup (is_at (key_cmp q)) (map (left_of round) changes.now)) (lookup (is_at (key_cmp q)) rows.old.entries)) }
+    ensures again { (q : _) → or_below (lookup (is_at (key_cmp q)) (map (left_of round) changes.now)) (lookup (is_at (key_cmp q)) rows.new.entries) ≡ or_below (lookup (is_at (key_cmp q)) (map (left_of round) changes.now)) (lookup (is_at (key_cmp q)) rows.old.entries) }
+    ensures kept { All (λ e. IsKept e.0 e.1.row) rows.new.entries }
+{
+    let applied = apply_all(alloc, rows, changes, round);
+    let _count = rows.len();
+    applied
+}
+
+// Puts changes of a round.
+fn apply_all(
+    alloc: Global,
+    rows: &mut BTreeMap<Key, Stored>,
+    changes: &[Change],
+    round: u64,
+) -> Result<(), AllocError>
+    requires ordered { IsStrictlySortedBy key_cmp (map (λ c. c.key) changes.now) }
+    requires changed { All (λ c. IfSome c.row (IsKept c.key)) changes.now }
+    requires kept { (q : _) → IfSome (lookup (is_at (key_cmp q)) rows.old.entries) (λ s. IsKept q s.row) }
+    ensures ok { OnOk result ((q : _) → lookup (is_at (key_cmp q)) rows.new.entries ≡ or_below (lookup (is_at (key_cmp q)) (map (left_of round) changes.now)) (lookup (is_at (key_cmp q)) rows.old.entries)) }
+    ensures again { (q : _) → or_below (lookup (is_at (key_cmp q)) (map (left_of round) changes.now)) (lookup (is_at (key_cmp q)) rows.new.entries) ≡ or_below (lookup (is_at (key_cmp q)) (map (left_of round) changes.now)) (lookup (is_at (key_cmp q)) rows.old.entries) }
+    ensures kept { (q : _) → IfSome (lookup (is_at (key_cmp q)) rows.new.entries) (λ s. IsKept q s.row) }
+{
+    for change in changes {
+        apply_one(alloc, rows, change, round)?;
+    }
+    Ok(())
+}
+
+// Puts what a change leaves under its key.
+fn apply_one(
+    alloc: Global,
+    rows: &mut BTreeMap<Key, Stored>,
+    change: &Change,
+    round: u64,
+) -> Result<(), AllocError>
+    ensures ok { OnOk result ((q : _) → lookup (is_at (key_cmp q)) rows.new.entries ≡ cond (is_at (key_cmp change.now.key) q) (stored_at round change.now.row) (lookup (is_at (key_cmp q)) rows.old.entries)) }
+    ensures err { OnErr result (rows.new.entries ≡ rows.old.entries) }
+{
+    match &change.row {
+        Some(row) => {
+            let row = row.copy(alloc)?;
+            put_row(
+                rows,
+                &change.key,
+                Stored {
+                    row,
+                    changed: round,
+                },
+            )
+        }
+        None => {
+            take_row(rows, &change.key);
+            Ok(())
+        }
+    }
+}
+
+/// Puts a row under a key. Errors: no memory, and the rows are as before.
+pub fn put_row(
+    rows: &mut BTreeMap<Key, Stored>,
+    key: &Key,
+    stored: Stored,
+) -> Result<(), AllocError>
+    ensures ok { OnOk result ((q : _) → lookup (is_at (key_cmp q)) rows.new.entries ≡ cond (is_at (key_cmp key.now) q) (Some stored) (lookup (is_at (key_cmp q)) rows.old.entries)) }
+    ensures err { OnErr result (rows.new.entries ≡ rows.old.entries) }
+{
+    match rows.insert(*key, stored) {
+        Ok(_) => Ok(()),
+        Err(_) => Err(AllocError),
+    }
+}
+
+/// Takes the row under a key away.
+pub fn take_row(rows: &mut BTreeMap<Key, Stored>, key: &Key)
+    ensures { (q : _) → lookup (is_at (key_cmp q)) rows.new.entries ≡ cond (is_at (key_cmp key.now) q) None (lookup (is_at (key_cmp q)) rows.old.entries) }
+{
+    let _ = rows.remove(key);
+}
