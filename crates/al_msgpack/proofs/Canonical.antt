@@ -2,18 +2,14 @@
 use Rattle.std.proofs.Common.{◌≡◌, ℕ, zero, suc, ◌%◌, ◌^◌, ◌<◌, true, false, List, [], ◌∷◌, ◌++◌, length, Option, Some, None, refl, sym, ap, ap₂, subst, ◌∙◌, arith, inl, inr}
 use Rattle.std.specs.List.{AllByRecursion}
 use Rattle.std.proofs.lemmas.Bool.{cases_lt, lt-ltb, le-ltb}
-use Rattle.std.proofs.lemmas.List.{length-map}
 use Rattle.al_msgpack.specs.declared.val.Val.{Val}
 use Rattle.al_msgpack.specs.declared.val.Val.TheVariants as vals
-use Rattle.al_msgpack.specs.declared.val.Entry.{Entry, fold-Entry}
-use Rattle.al_msgpack.specs.declared.val.Val.TheOpen.{Val-F}
-use Rattle.al_msgpack.specs.declared.val.Val.TheViews.{roll-Val, roll-Entry}
-use Rattle.al_msgpack.specs.declared.val.Val.TheFolds.{fold-roll-Val, fold-roll-Entry}
-use denote.Hole.Carrier.{roll}
+use Rattle.al_msgpack.specs.declared.val.Entry.{Entry}
 use Rattle.al_msgpack.specs.Grammar.{Spelling, AreBytes}
 use Rattle.al_msgpack.specs.Spelling as spell
 use Rattle.al_msgpack.specs.Spelling.{Near, Far, NumIs, StringHead, BytesHead, ListHead, MapHead, Counted, PlainIs, NestIs, Spells, AllSpelled, EntriesSpelled, Rises}
-use Rattle.al_msgpack.specs.Spelled.{num_spelled, string_head, bytes_head, list_head, map_head, spelled, spelled_step, entry_step, all_spelled, entries_spelled}
+use Rattle.al_msgpack.specs.Spelled.{num_spelled, string_head, bytes_head, list_head, map_head, spelled, all_spelled, entries_spelled}
+use Rattle.al_msgpack.proofs.Spellings.{spelled_num, spelled_flag, spelled_str, spelled_bin, spelled_list, spelled_map, spelled_first}
 use Rattle.al_msgpack.specs.Canonical as canon
 use Rattle.al_msgpack.specs.Canonical.{IsPlain, IsNest, AreEntries, IsCanonical}
 
@@ -135,57 +131,17 @@ map_small n b (spell.map_0 p) = omega (arith, p.below)
 map_small n b (spell.map_2 p) = omega (arith, p.fits)
 map_small n b (spell.map_4 p) = omega (arith, p.fits)
 
--- ---- the function at each variant
-
-abbrev entry_spelled : Entry → List ℕ × List ℕ
-entry_spelled e = fold-Entry (List ℕ) (List ℕ × List ℕ) spelled_step entry_step e
-
-at_num : (n : ℕ) → spelled (vals.Num n) ≡ num_spelled n
-unfolding roll-Val roll
-at_num n = fold-roll-Val (List ℕ) (List ℕ × List ℕ) spelled_step entry_step (Val-F.Num n)
-
-at_no : spelled (vals.Flag false) ≡ 0xc2 ∷ []
-unfolding roll-Val roll
-at_no = fold-roll-Val (List ℕ) (List ℕ × List ℕ) spelled_step entry_step (Val-F.Flag false)
-
-at_yes : spelled (vals.Flag true) ≡ 0xc3 ∷ []
-unfolding roll-Val roll
-at_yes = fold-roll-Val (List ℕ) (List ℕ × List ℕ) spelled_step entry_step (Val-F.Flag true)
-
-at_str : (s : List ℕ) → spelled (vals.Str s) ≡ string_head (length s) ++ s
-unfolding roll-Val roll
-at_str s = fold-roll-Val (List ℕ) (List ℕ × List ℕ) spelled_step entry_step (Val-F.Str s)
-
-at_bin : (s : List ℕ) → spelled (vals.Bin s) ≡ bytes_head (length s) ++ s
-unfolding roll-Val roll
-at_bin s = fold-roll-Val (List ℕ) (List ℕ × List ℕ) spelled_step entry_step (Val-F.Bin s)
-
-at_list : (vs : List Val) → spelled (vals.List vs) ≡ list_head (length vs) ++ all_spelled vs
-unfolding roll-Val roll
-at_list vs = fold-roll-Val (List ℕ) (List ℕ × List ℕ) spelled_step entry_step (Val-F.List vs) ∙ ap (λ z. list_head z ++ all_spelled vs) (length-map vs spelled)
-
-at_map : (es : List Entry) → spelled (vals.Map es) ≡ map_head (length es) ++ entries_spelled es
-unfolding roll-Val roll
-at_map es = fold-roll-Val (List ℕ) (List ℕ × List ℕ) spelled_step entry_step (Val-F.Map es) ∙ ap (λ z. map_head z ++ entries_spelled es) (length-map es entry_spelled)
-
-at_entry : (e : Entry) → entry_spelled e ≡ (e.key, spelled e.val)
-unfolding roll-Entry roll
-at_entry e = fold-roll-Entry (List ℕ) (List ℕ × List ℕ) spelled_step entry_step (record { key = e.key; val = e.val })
-
-at_entries : (e : Entry) (es : List Entry) → entries_spelled (e ∷ es) ≡ (string_head (length e.key) ++ e.key) ++ (spelled e.val ++ entries_spelled es)
-at_entries e es = ap (λ (z : List ℕ × List ℕ). (string_head (length z.0) ++ z.0) ++ (z.1 ++ entries_spelled es)) (at_entry e)
-
 -- ---- one spelling
 
 counted_only : (H : ℕ → List ℕ → Type 0) (f : ℕ → List ℕ) → ((n : ℕ) (b : List ℕ) → H n b → f n ≡ b) → (s b : List ℕ) → Counted H s b → f (length s) ++ s ≡ b
 counted_only H f only s b p = ap (λ z. z ++ s) (only (length s) p.head p.counts) ∙ sym p.is
 
 plain_only : (v : Val) (b : List ℕ) → PlainIs v b → spelled v ≡ b
-plain_only v b (spell.number n e p) = ap spelled e ∙ at_num n ∙ num_only n b p
-plain_only v b (spell.no e p) = ap spelled e ∙ at_no ∙ sym p
-plain_only v b (spell.yes e p) = ap spelled e ∙ at_yes ∙ sym p
-plain_only v b (spell.string s e p) = ap spelled e ∙ at_str s ∙ counted_only StringHead string_head string_only s b p
-plain_only v b (spell.bytes s e p) = ap spelled e ∙ at_bin s ∙ counted_only BytesHead bytes_head bytes_only s b p
+plain_only v b (spell.number n e p) = ap spelled e ∙ spelled_num n ∙ num_only n b p
+plain_only v b (spell.no e p) = ap spelled e ∙ spelled_flag false ∙ sym p
+plain_only v b (spell.yes e p) = ap spelled e ∙ spelled_flag true ∙ sym p
+plain_only v b (spell.string s e p) = ap spelled e ∙ spelled_str s ∙ counted_only StringHead string_head string_only s b p
+plain_only v b (spell.bytes s e p) = ap spelled e ∙ spelled_bin s ∙ counted_only BytesHead bytes_head bytes_only s b p
 
 module _ (S : Spelling Val) (only : (v : Val) (b : List ℕ) → S v b → spelled v ≡ b) where
   all_only : (vs : List Val) (b : List ℕ) → AllSpelled S vs b → all_spelled vs ≡ b
@@ -195,11 +151,11 @@ module _ (S : Spelling Val) (only : (v : Val) (b : List ℕ) → S v b → spell
   entries_only : (before : Option (List ℕ)) (es : List Entry) (b : List ℕ) → EntriesSpelled S before es b → entries_spelled es ≡ b
   entries_only before [] b p = sym p
   entries_only before (e ∷ es) b (k, a, c, is, up, key, val, rest) =
-      at_entries e es ∙ ap₂ (λ s t. s ++ t) (counted_only StringHead string_head string_only e.key k key) (ap₂ (λ s t. s ++ t) (only e.val a val) (entries_only (Some e.key) es c rest)) ∙ sym is
+      spelled_first e es ∙ ap₂ (λ s t. s ++ t) (counted_only StringHead string_head string_only e.key k key) (ap₂ (λ s t. s ++ t) (only e.val a val) (entries_only (Some e.key) es c rest)) ∙ sym is
 
   nest_only : (v : Val) (b : List ℕ) → NestIs S v b → spelled v ≡ b
-  nest_only v b (spell.list vs h c e head is p) = ap spelled e ∙ at_list vs ∙ ap₂ (λ s t. s ++ t) (list_only (length vs) h head) (all_only vs c p) ∙ sym is
-  nest_only v b (spell.map es h c e head is p) = ap spelled e ∙ at_map es ∙ ap₂ (λ s t. s ++ t) (map_only (length es) h head) (entries_only None es c p) ∙ sym is
+  nest_only v b (spell.list vs h c e head is p) = ap spelled e ∙ spelled_list vs ∙ ap₂ (λ s t. s ++ t) (list_only (length vs) h head) (all_only vs c p) ∙ sym is
+  nest_only v b (spell.map es h c e head is p) = ap spelled e ∙ spelled_map es ∙ ap₂ (λ s t. s ++ t) (map_only (length es) h head) (entries_only None es c p) ∙ sym is
 
 pub spells_only : (depth : ℕ) (v : Val) (b : List ℕ) → Spells depth v b → spelled v ≡ b
 unfolding Spells
@@ -213,11 +169,11 @@ counted_some : (H : ℕ → List ℕ → Type 0) (f : ℕ → List ℕ) (s : Lis
 counted_some H f s fits p = record { bytes = fits; head = f (length s); counts = p; is = refl }
 
 plain_some : (v : Val) → IsPlain v → PlainIs v (spelled v)
-plain_some v (canon.number n e lt) = subst (λ z. PlainIs z (spelled z)) (sym e) (spell.number n refl (subst (λ z. NumIs n z) (sym (at_num n)) (num_some n lt)))
-plain_some v (canon.flag false e) = subst (λ z. PlainIs z (spelled z)) (sym e) (spell.no refl at_no)
-plain_some v (canon.flag true e) = subst (λ z. PlainIs z (spelled z)) (sym e) (spell.yes refl at_yes)
-plain_some v (canon.string s e fits lt) = subst (λ z. PlainIs z (spelled z)) (sym e) (spell.string s refl (subst (λ z. Counted StringHead s z) (sym (at_str s)) (counted_some StringHead string_head s fits (string_some (length s) lt))))
-plain_some v (canon.bytes s e fits lt) = subst (λ z. PlainIs z (spelled z)) (sym e) (spell.bytes s refl (subst (λ z. Counted BytesHead s z) (sym (at_bin s)) (counted_some BytesHead bytes_head s fits (bytes_some (length s) lt))))
+plain_some v (canon.number n e lt) = subst (λ z. PlainIs z (spelled z)) (sym e) (spell.number n refl (subst (λ z. NumIs n z) (sym (spelled_num n)) (num_some n lt)))
+plain_some v (canon.flag false e) = subst (λ z. PlainIs z (spelled z)) (sym e) (spell.no refl (spelled_flag false))
+plain_some v (canon.flag true e) = subst (λ z. PlainIs z (spelled z)) (sym e) (spell.yes refl (spelled_flag true))
+plain_some v (canon.string s e fits lt) = subst (λ z. PlainIs z (spelled z)) (sym e) (spell.string s refl (subst (λ z. Counted StringHead s z) (sym (spelled_str s)) (counted_some StringHead string_head s fits (string_some (length s) lt))))
+plain_some v (canon.bytes s e fits lt) = subst (λ z. PlainIs z (spelled z)) (sym e) (spell.bytes s refl (subst (λ z. Counted BytesHead s z) (sym (spelled_bin s)) (counted_some BytesHead bytes_head s fits (bytes_some (length s) lt))))
 
 plain_has : (v : Val) (b : List ℕ) → PlainIs v b → IsPlain v
 plain_has v b (spell.number n e p) = canon.number n e (num_small n b p)
@@ -234,13 +190,13 @@ module _ (S : Spelling Val) (P : Val → Type 0) (some : (v : Val) → P v → S
   entries_some : (before : Option (List ℕ)) (es : List Entry) → AreEntries P before es → EntriesSpelled S before es (entries_spelled es)
   entries_some before [] p = refl
   entries_some before (e ∷ es) (up, fits, lt, val, rest) =
-      (string_head (length e.key) ++ e.key, spelled e.val, entries_spelled es, at_entries e es, up, counted_some StringHead string_head e.key fits (string_some (length e.key) lt), some e.val val, entries_some (Some e.key) es rest)
+      (string_head (length e.key) ++ e.key, spelled e.val, entries_spelled es, spelled_first e es, up, counted_some StringHead string_head e.key fits (string_some (length e.key) lt), some e.val val, entries_some (Some e.key) es rest)
 
   nest_some : (v : Val) → IsNest P v → NestIs S v (spelled v)
   nest_some v (canon.list vs e lt p) = subst (λ z. NestIs S z (spelled z)) (sym e)
-      (spell.list vs (list_head (length vs)) (all_spelled vs) refl (list_some (length vs) lt) (at_list vs) (all_some vs p))
+      (spell.list vs (list_head (length vs)) (all_spelled vs) refl (list_some (length vs) lt) (spelled_list vs) (all_some vs p))
   nest_some v (canon.map es e lt p) = subst (λ z. NestIs S z (spelled z)) (sym e)
-      (spell.map es (map_head (length es)) (entries_spelled es) refl (map_some (length es) lt) (at_map es) (entries_some None es p))
+      (spell.map es (map_head (length es)) (entries_spelled es) refl (map_some (length es) lt) (spelled_map es) (entries_some None es p))
 
 module _ (S : Spelling Val) (P : Val → Type 0) (has : (v : Val) (b : List ℕ) → S v b → P v) where
   all_have : (vs : List Val) (b : List ℕ) → AllSpelled S vs b → AllByRecursion P vs

@@ -8,6 +8,7 @@ pub mod Values
 pub mod Verdicts
 pub mod Codes
 pub mod Written
+pub mod Spellings
 pub mod Canonical
 pub mod Encoded
 pub mod Rising

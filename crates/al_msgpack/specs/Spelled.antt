@@ -1,5 +1,5 @@
 -- The one spelling of a value, as a function.
-use Rattle.std.specs.Prelude.{ℕ, ◌+◌, ◌%◌, ◌^◌, List, [], ◌∷◌, ◌++◌, length, map, if◌then◌else◌, nat_lt, true, false}
+use Rattle.std.specs.Prelude.{ℕ, ◌+◌, ◌%◌, ◌^◌, ◌≡◌, Bool, List, [], ◌∷◌, ◌++◌, length, map, take, if◌then◌else◌, nat_lt}
 use Rattle.al_msgpack.specs.declared.val.Val.{Val, fold-Val}
 use Rattle.al_msgpack.specs.declared.val.Val.TheOpen.{Val-F, Entry-F}
 use Rattle.al_msgpack.specs.declared.val.Entry.{Entry, fold-Entry}
@@ -20,6 +20,9 @@ list_head n = if nat_lt n 16 then (0x90 + n) ∷ [] else if nat_lt n 0x10000 the
 abbrev pub map_head : ℕ → List ℕ
 map_head n = if nat_lt n 16 then (0x80 + n) ∷ [] else if nat_lt n 0x10000 then 0xde ∷ digits 2 n else 0xdf ∷ digits 4 (n % 2 ^ 32)
 
+abbrev pub flag_spelled : Bool → List ℕ
+flag_spelled flag = (if flag then 0xc3 else 0xc2) ∷ []
+
 abbrev pub joined : List (List ℕ) → List ℕ
 joined [] = []
 joined (x ∷ xs) = x ++ joined xs
@@ -34,8 +37,7 @@ entry_step e = (e.key, e.val)
 
 abbrev pub spelled_step : Val-F (List ℕ) (List ℕ × List ℕ) → List ℕ
 spelled_step (Val-F.Num n) = num_spelled n
-spelled_step (Val-F.Flag false) = 0xc2 ∷ []
-spelled_step (Val-F.Flag true) = 0xc3 ∷ []
+spelled_step (Val-F.Flag flag) = flag_spelled flag
 spelled_step (Val-F.Str s) = string_head (length s) ++ s
 spelled_step (Val-F.Bin s) = bytes_head (length s) ++ s
 spelled_step (Val-F.List items) = list_head (length items) ++ joined items
@@ -49,3 +51,7 @@ all_spelled vs = joined (map spelled vs)
 
 abbrev pub entries_spelled : List Entry → List ℕ
 entries_spelled es = joined_entries (map (fold-Entry (List ℕ) (List ℕ × List ℕ) spelled_step entry_step) es)
+
+-- what stood in an output still stands in front
+abbrev pub IsFront : List ℕ → List ℕ → Type 0
+IsFront before now = take (length before) now ≡ before

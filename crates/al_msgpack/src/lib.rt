@@ -20,7 +20,10 @@ pub use fault::DecodeFault;
 pub use laws::format_laws;
 pub use reading::decode;
 pub use val::{Entries, Entry, Val, Vals};
-pub use writing::{encode, write};
+pub use writing::{
+    encode, write, write_all, write_bytes, write_entries, write_flag, write_list_head,
+    write_map_head, write_number, write_string,
+};
 
 #[cfg(test)]
 mod tests;
