@@ -1,13 +1,13 @@
 //! The record of a block.
-ghost use Rattle.std.specs.Prelude.{◌≡◌, IsTrue, IfOk};
+ghost use Rattle.std.specs.Prelude.{IsTrue};
 ghost use Rattle.al_record.specs.Canonical.{are_canonical};
 
 use crate::Block;
-use crate::header_record::{header_entries, read_header};
-use al_msgpack::{Entries, Entry};
+use crate::header_record::read_header;
+use al_msgpack::{Entry, write_map_head};
 use al_record::{
-    Column, ReadError, Record, Shape, check_fields, list, list_of_all, map, put_list, put_map,
-    read_all,
+    Column, ReadError, Record, Shape, check_fields, list, map, read_all, write_record,
+    write_records,
 };
 use al_txn::Item;
 use std::alloc::{AllocError, Global};
@@ -26,11 +26,15 @@ impl Record for Block {
         Ok(Block { header, items })
     }
 
-    fn entries(&self, alloc: Global) -> Result<Entries, AllocError> {
-        let mut out = Entries::new(alloc);
-        put_map(alloc, &mut out, "b", header_entries(alloc, &self.header)?)?;
-        let items = list_of_all(alloc, self.items.as_slice())?;
-        put_list(alloc, &mut out, "t", items)?;
-        Ok(out)
+    fn is_empty(&self) -> bool {
+        self.header.is_empty() && self.items.is_empty()
+    }
+
+    fn write(&self, out: &mut Vec<u8>) -> Result<(), AllocError> {
+        let header = if self.header.is_empty() { 0 } else { 1 };
+        let items = if self.items.is_empty() { 0 } else { 1 };
+        write_map_head(header + items, out)?;
+        write_record("b", &self.header, out)?;
+        write_records("t", self.items.as_slice(), out)
     }
 }

@@ -1,16 +1,20 @@
 //! The records of a payset's entries.
-ghost use Rattle.std.specs.Prelude.{◌≡◌, IsTrue, IfOk};
+ghost use Rattle.std.specs.Prelude.{◌≡◌, ◌++◌, IsTrue, IfErr, IfOk};
+ghost use Rattle.al_msgpack.specs.declared.val.Val.TheVariants as values;
+ghost use Rattle.al_msgpack.specs.Spelled.{IsFront, spelled};
 ghost use Rattle.al_record.specs.Columns.{Reads};
 ghost use Rattle.al_record.specs.Canonical.{canonical, are_canonical};
-ghost use Rattle.al_txn.specs.Item.{ReadsItem, most_effects};
+ghost use Rattle.al_txn.specs.Ids.{txid_of};
+ghost use Rattle.al_txn.specs.Item.{ReadsItem, most_effects, item};
+ghost use Rattle.al_txn.specs.Txn.{txn};
 
-use crate::record::{read_txn, txn_entries};
-use crate::{Effect, Item};
-use al_base::Bytes;
-use al_msgpack::{Entries, Entry, Val};
+use crate::{Effect, Item, Txn};
+use al_base::{Bytes, Hash};
+use al_digest::{Prefix, digest};
+use al_msgpack::{Entry, Val, write_map_head, write_string};
 use al_record::{
-    Column, Fault, ReadError, Record, Shape, check_fields, field, find, list, list_of_all, map,
-    put_list, put_map, range, read_all, read_member,
+    Column, Fault, ReadError, Record, Shape, check_fields, find, list, map, range, read_all,
+    read_member, write_records,
 };
 use std::alloc::{AllocError, Global};
 
@@ -55,17 +59,41 @@ impl Record for Item {
             return Err(range(alloc, "fx"));
         }
         let effects = read_all::<Effect>(alloc, vals)?;
-        let txn = read_txn(alloc, map(entries, "txn"))?;
+        let txn = Txn::read(alloc, map(entries, "txn"))?;
         Ok(Item { txn, effects })
     }
 
-    fn entries(&self, alloc: Global) -> Result<Entries, AllocError> {
-        let mut out = Entries::new(alloc);
-        let effects = list_of_all(alloc, self.effects.as_slice())?;
-        put_list(alloc, &mut out, "fx", effects)?;
-        put_map(alloc, &mut out, "txn", txn_entries(alloc, &self.txn)?)?;
-        Ok(out)
+    fn is_empty(&self) -> bool {
+        false
     }
+
+    fn write(&self, out: &mut Vec<u8>) -> Result<(), AllocError> {
+        write_front(self, out)?;
+        self.txn.write(out)
+    }
+}
+
+/// Appends what stands before the transaction in the record of an entry.
+fn write_front(member: &Item, out: &mut Vec<u8>) -> Result<(), AllocError>
+    ensures bytes { IfOk result (λ _. out.new.items ++ spelled (values.Map (txn.write member.now.txn)) ≡ out.old.items ++ spelled (values.Map (item.write member.now))) }
+    ensures front { IsFront out.old.items out.new.items }
+{
+    let effects = member.effects.as_slice();
+    write_map_head(if effects.is_empty() { 1 } else { 2 }, out)?;
+    write_records("fx", effects, out)?;
+    write_string(b"txn", out)
+}
+
+/// Appends the record of an entry, and gives the id of its transaction.
+pub fn write_with_id(member: &Item, out: &mut Vec<u8>) -> Result<Hash, AllocError>
+    ensures bytes { IfOk result (λ _. out.new.items ≡ out.old.items ++ spelled (values.Map (item.write member.now))) }
+    ensures id { IfOk result (λ id. id ≡ txid_of member.now.txn) }
+    ensures front { IfErr result (λ _. IsFront out.old.items out.new.items) }
+{
+    write_front(member, out)?;
+    let start = out.len();
+    member.txn.write(out)?;
+    Ok(digest(Prefix::Tx, &out[start..]))
 }
 
 /// The entry of a payset whose record a value is, or the first fault of that record.
