@@ -6,7 +6,7 @@ ghost use Rattle.al_eval.specs.Genesis.{row, genesis};
 
 use crate::genesis_fields::{FirstAccount, FirstRow, GenesisRecord, MOST_MONEY};
 use al_base::Address;
-use al_msgpack::{Entries, Entry, Val};
+use al_msgpack::{Entries, Entry, Val, write};
 use al_record::{
     COUNT, Column, Content, HASH, ReadError, Record, Shape, array, check, check_fields,
     check_ranges, field, list, listed, map, number, put_map, read_all, text,
@@ -93,6 +93,11 @@ impl Record for FirstAccount {
         let mut out = listed(alloc, &ACCOUNT[..1], &[Content::Array(&self.address.0)])?;
         put_map(alloc, &mut out, "row", row_entries(alloc, &self.row)?)?;
         Ok(out)
+    }
+
+    fn write(&self, out: &mut Vec<u8>) -> Result<(), AllocError> {
+        let alloc = *out.allocator();
+        write(&Val::Map(self.entries(alloc)?), out)
     }
 }
 

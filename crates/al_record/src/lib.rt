@@ -19,6 +19,7 @@ mod lookup;
 mod pass;
 mod record;
 mod shape;
+mod spell;
 mod theorems;
 mod write;
 
@@ -27,8 +28,12 @@ pub use fault::{Fault, ReadError};
 pub use kind::{field, number_kind, range, text_kind};
 pub use lookup::{addresses, array, bytes, find, flag, list, map, number, text};
 pub use pass::{check, check_fields, check_ranges, fitting};
-pub use record::{Record, list_of_all, read_all, read_member};
+pub use record::{
+    InnerRecord, Record, encode_record, list_of_all, read_all, read_member, write_list_of,
+    write_record, write_records,
+};
 pub use shape::{ANY_BYTES, COUNT, Column, HASH, Shape};
+pub use spell::{count_written, write_field, write_fields, write_inner, write_listed};
 pub use theorems::record_laws;
 pub use write::{Content, listed, put, put_list, put_map};
 

@@ -19,6 +19,8 @@ pub enum Content<'a> {
     Text(&'a Bytes),
     /// A byte string.
     Bytes(&'a Bytes),
+    /// A byte string.
+    Slice(&'a [u8]),
     /// 32 bytes.
     Array(&'a [u8; 32]),
     /// 64 bytes.
@@ -53,6 +55,12 @@ impl<'a> Content<'a> {
                     return Ok(None);
                 }
                 Ok(Some(Val::Bin(b.copy(alloc)?)))
+            }
+            Content::Slice(b) => {
+                if b.is_empty() {
+                    return Ok(None);
+                }
+                Ok(Some(Val::Bin(Bytes::of(alloc, b)?)))
             }
             Content::Array(b) => array_val(alloc, b),
             Content::Wide(b) => array_val(alloc, b),
