@@ -1,5 +1,5 @@
 -- Blocks, and what an input is that should be one.
-use Rattle.std.specs.Prelude.{◌≡◌, nat_le, ℕ, codes, length, List, [], ◌∷◌, Option, Some, None, Result, Ok, Err}
+use Rattle.std.specs.Prelude.{◌≡◌, nat_le, ℕ, Bool, true, false, codes, length, List, [], ◌∷◌, Option, Some, None, Result, Ok, Err}
 use Rattle.al_msgpack.specs.declared.val.Val.{Val, out-Val}
 use Rattle.al_msgpack.specs.declared.val.Val.TheVariants as values
 use Rattle.al_msgpack.specs.Places.{IsSpelling, Means}
@@ -21,6 +21,11 @@ block_fields =
 
 abbrev pub block : Format Block
 block = table block_fields
+
+-- how many fields a part takes that may be absent
+abbrev pub count_unless : Bool → ℕ
+count_unless true = 0
+count_unless false = 1
 
 -- the most bytes of a block's spelling
 abbrev pub most_bytes : ℕ

@@ -1,12 +1,13 @@
 //! The record of a block.
-ghost use Rattle.std.specs.Prelude.{IsTrue};
+ghost use Rattle.std.specs.Prelude.{◌≡◌, ◌≤◌, length, IsTrue};
+ghost use Rattle.al_block.specs.Block.{block, count_unless};
 ghost use Rattle.al_record.specs.Canonical.{are_canonical};
 
 use crate::Block;
 use crate::header_record::read_header;
 use al_msgpack::{Entry, write_map_head};
 use al_record::{
-    Column, ReadError, Record, Shape, check_fields, list, map, read_all, write_record,
+    Column, InnerRecord, ReadError, Record, Shape, check_fields, list, map, read_all, write_record,
     write_records,
 };
 use al_txn::Item;
@@ -15,8 +16,6 @@ use std::alloc::{AllocError, Global};
 const BLOCK: [Column; 2] = [Column("b", Shape::Map), Column("t", Shape::List)];
 
 impl Record for Block {
-    ghost use Rattle.al_block.specs.Block.{block};
-
     ghost format = { block };
 
     fn read(alloc: Global, entries: &[Entry]) -> Result<Block, ReadError> {
@@ -26,15 +25,24 @@ impl Record for Block {
         Ok(Block { header, items })
     }
 
-    fn is_empty(&self) -> bool {
-        self.header.is_empty() && self.items.is_empty()
-    }
-
     fn write(&self, out: &mut Vec<u8>) -> Result<(), AllocError> {
-        let header = if self.header.is_empty() { 0 } else { 1 };
-        let items = if self.items.is_empty() { 0 } else { 1 };
-        write_map_head(header + items, out)?;
+        write_map_head(count_fields(self), out)?;
         write_record("b", &self.header, out)?;
         write_records("t", self.items.as_slice(), out)
     }
+}
+
+/// How many fields the record has.
+fn count_fields(b: &Block) -> usize
+    ensures { result ≡ length (block.write b.now) }
+{
+    let header = count_one(b.header.is_empty());
+    header + count_one(b.items.as_slice().is_empty())
+}
+
+fn count_one(absent: bool) -> usize
+    ensures value { result ≡ count_unless absent }
+    ensures most { result ≤ 1 }
+{
+    if absent { 0 } else { 1 }
 }

@@ -9,8 +9,8 @@ use crate::Header;
 use al_base::Address;
 use al_msgpack::Entry;
 use al_record::{
-    COUNT, Column, Content, HASH, ReadError, Record, Shape, addresses, array, check, count_written,
-    number, write_listed,
+    COUNT, Column, Content, HASH, InnerRecord, ReadError, Record, Shape, addresses, array, check,
+    count_written, number, write_listed,
 };
 use std::alloc::{AllocError, Global};
 
@@ -83,11 +83,13 @@ impl Record for Header {
         read_header(alloc, entries)
     }
 
-    fn is_empty(&self) -> bool {
-        count_written(&contents(self)) == 0
-    }
-
     fn write(&self, out: &mut Vec<u8>) -> Result<(), AllocError> {
         write_listed(&HEADER, &contents(self), out)
+    }
+}
+
+impl InnerRecord for Header {
+    fn is_empty(&self) -> bool {
+        count_written(&contents(self)) == 0
     }
 }

@@ -192,10 +192,6 @@ impl Record for Effect {
         }
     }
 
-    fn is_empty(&self) -> bool {
-        false
-    }
-
     fn write(&self, out: &mut Vec<u8>) -> Result<(), AllocError> {
         match self {
             Effect::Create {

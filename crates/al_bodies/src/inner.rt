@@ -9,7 +9,8 @@ use crate::Inner;
 use crate::body_record::{move_of, pay_of};
 use al_msgpack::Entry;
 use al_record::{
-    Column, Content, HASH, ReadError, Record, Shape, check, range, text_kind, write_listed,
+    Column, Content, HASH, InnerRecord, ReadError, Record, Shape, check, range, text_kind,
+    write_listed,
 };
 use std::alloc::{AllocError, Global};
 
@@ -50,10 +51,6 @@ impl Record for Inner {
         read_inner(alloc, entries)
     }
 
-    fn is_empty(&self) -> bool {
-        false
-    }
-
     fn write(&self, out: &mut Vec<u8>) -> Result<(), AllocError> {
         match self {
             Inner::Pay(p) => write_listed(
@@ -79,6 +76,12 @@ impl Record for Inner {
                 out,
             ),
         }
+    }
+}
+
+impl InnerRecord for Inner {
+    fn is_empty(&self) -> bool {
+        false
     }
 }
 

@@ -1,8 +1,8 @@
 //! The parameters of assets.
-ghost use Rattle.std.specs.Prelude.{◌≡◌, ◌++◌, [], map, IsTrue, OnErr, OnOk};
+ghost use Rattle.std.specs.Prelude.{◌≡◌, ◌++◌, ◌∷◌, [], map, IsTrue, OnErr, OnOk};
 ghost use Rattle.al_msgpack.specs.Spelled.{IsFront, entries_spelled};
-ghost use Rattle.al_record.specs.Columns.{Reads, is_empty, map_put, put, with_entry};
-ghost use Rattle.al_record.specs.Code.{put_of};
+ghost use Rattle.al_record.specs.Columns.{Reads, map_put, put, with_entry};
+ghost use Rattle.al_record.specs.Code.{count_some, put_of};
 ghost use Rattle.al_record.specs.Canonical.{are_canonical};
 ghost use Rattle.al_bodies.specs.Bodies.{asset_params, params_fields};
 
@@ -68,11 +68,14 @@ fn contents<'a>(p: &'a AssetParams) -> [Content<'a>; 11]
     ]
 }
 
-/// Whether all parameters are zero.
-pub fn params_are_zero(p: &AssetParams) -> bool
-    ensures { result ≡ is_empty (asset_params.write p.now) }
+/// How many fields the parameters take in an outer record: none where all are zero.
+pub fn count_params(p: &AssetParams) -> usize
+    ensures { result ≡ count_some (map_put (asset_params.write p.now) ∷ []) }
 {
-    count_written(&contents(p)) == 0
+    if count_written(&contents(p)) == 0 {
+        return 0;
+    }
+    1
 }
 
 /// Appends the field of an asset's parameters, unless they are zero.

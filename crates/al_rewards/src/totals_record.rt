@@ -9,8 +9,7 @@ ghost use Rattle.al_rewards.specs.Record.{SpellsOneTotals, SpellsTotals, totals}
 use crate::{Count, Totals};
 use al_msgpack::Entry;
 use al_record::{
-    Column, Content, ReadError, Record, Shape, check, count_written, encode_record, number,
-    write_listed,
+    Column, Content, ReadError, Record, Shape, check, encode_record, number, write_listed,
 };
 use std::alloc::{AllocError, Global};
 
@@ -48,10 +47,6 @@ impl Record for Totals {
                 units: number(entries, "pu"),
             },
         })
-    }
-
-    fn is_empty(&self) -> bool {
-        count_written(&contents(self)) == 0
     }
 
     fn write(&self, out: &mut Vec<u8>) -> Result<(), AllocError> {

@@ -79,8 +79,9 @@ pub fn write_call<'a>(
     ensures front { OnErr result (IsFront out.old.items out.new.items) }
 {
     let contents = contents(t, group, a.app);
-    write_map_head(a.rest.len() + count_written(&contents), out)?;
-    write_merged(a.rest.as_slice(), &CALL, &contents, out)
+    let rest = a.rest.as_slice();
+    write_map_head(rest.len() + count_written(&contents), out)?;
+    write_merged(rest, &CALL, &contents, out)
 }
 
 /// What stands under each name that is not kept.

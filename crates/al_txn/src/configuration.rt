@@ -11,7 +11,7 @@ ghost use Rattle.al_txn.specs.Txn.{txn, acfg_txn, flat_acfg, with_group};
 use crate::common::common;
 use crate::{Body, Config, Txn};
 use al_base::Hash;
-use al_bodies::{params_are_zero, read_params, write_params};
+use al_bodies::{count_params, read_params, write_params};
 use al_msgpack::{Entry, write_map_head};
 use al_record::{
     ANY_BYTES, Column, Content, HASH, ReadError, Shape, check_fields, check_ranges, count_written,
@@ -60,8 +60,7 @@ pub fn write_config<'a>(
     ensures front { OnErr result (IsFront out.old.items out.new.items) }
 {
     let contents = contents(t, group, c.asset);
-    let inner = if params_are_zero(&c.params) { 0 } else { 1 };
-    write_map_head(inner + count_written(&contents), out)?;
+    write_map_head(count_params(&c.params) + count_written(&contents), out)?;
     write_params("apar", &c.params, out)?;
     write_fields(&CONFIG[1..], &contents, out)
 }

@@ -1,18 +1,17 @@
 //! The spellings of transactions, and the ids of transactions and groups.
-ghost use Rattle.std.specs.Prelude.{◌≡◌, ◌++◌, [], ℕ, List, codes, IfOk, OnErr, OnOk};
+ghost use Rattle.std.specs.Prelude.{◌≡◌, ◌++◌, ℕ, List, IfOk, OnErr, OnOk};
 ghost use Rattle.al_msgpack.specs.declared.val.Val.TheVariants as values;
 ghost use Rattle.al_msgpack.specs.Places.{IsSpelling};
-ghost use Rattle.al_msgpack.specs.Spelled.{all_spelled, spelled};
-ghost use Rattle.al_record.specs.Columns.{list_put, with_entry};
+ghost use Rattle.al_msgpack.specs.Spelled.{spelled};
 ghost use Rattle.al_txn.specs.Txn.{txn};
-ghost use Rattle.al_txn.specs.Ids.{txid_of, group_id_of, member_ids, ungrouped};
+ghost use Rattle.al_txn.specs.Ids.{txid_of, group_id_of, ungrouped};
 
 use crate::record::write_in_group;
 use crate::{Item, Txn};
-use al_base::Hash;
+use al_base::{Bytes, Hash};
 use al_digest::{Prefix, digest};
-use al_msgpack::{write_bytes, write_list_head, write_map_head, write_string};
-use al_record::{Record, encode_record};
+use al_msgpack::{Entries, Val, Vals, write};
+use al_record::{Record, encode_record, put_list};
 use std::alloc::{AllocError, Global};
 
 /// Appends the spelling of a transaction's record: the very bytes that it was read from. Nothing is
@@ -48,31 +47,14 @@ fn lone_txid(alloc: Global, t: &Txn) -> Result<Hash, AllocError>
 pub fn group_id(alloc: Global, items: &[Item]) -> Result<Hash, AllocError>
     ensures { IfOk result (λ h. h ≡ group_id_of items.now) }
 {
-    let mut bytes = Vec::new(alloc);
-    write_group(alloc, items, &mut bytes)?;
-    Ok(digest(Prefix::Group, bytes.as_slice()))
-}
-
-/// Appends the map with the members' ids.
-fn write_group(alloc: Global, items: &[Item], out: &mut Vec<u8>) -> Result<(), AllocError>
-    ensures { OnOk result (out.new.items ≡ out.old.items ++ spelled (values.Map (with_entry (codes "txlist") (list_put (member_ids items.now)) []))) }
-{
-    if items.is_empty() {
-        return write_map_head(0, out);
-    }
-    write_map_head(1, out)?;
-    write_string(b"txlist", out)?;
-    write_list_head(items.len(), out)?;
-    write_ids(alloc, items, out)
-}
-
-/// Appends the members' ids one behind the other.
-fn write_ids(alloc: Global, items: &[Item], out: &mut Vec<u8>) -> Result<(), AllocError>
-    ensures { OnOk result (out.new.items ≡ out.old.items ++ all_spelled (member_ids items.now)) }
-{
+    let mut ids = Vals::new(alloc);
     for item in items {
         let id = lone_txid(alloc, &item.txn)?;
-        write_bytes(&id, out)?;
+        ids.push(Val::Bin(Bytes::of(alloc, &id)?))?;
     }
-    Ok(())
+    let mut entries = Entries::new(alloc);
+    put_list(alloc, &mut entries, "txlist", ids)?;
+    let mut bytes = Vec::new(alloc);
+    write(&Val::Map(entries), &mut bytes)?;
+    Ok(digest(Prefix::Group, bytes.as_slice()))
 }

@@ -1,14 +1,14 @@
 //! The records of a payset's entries.
-ghost use Rattle.std.specs.Prelude.{◌≡◌, ◌++◌, IsTrue, IfErr, IfOk};
+ghost use Rattle.std.specs.Prelude.{◌≡◌, ◌++◌, ◌∷◌, [], suc, IsTrue, IfErr, IfOk, OnErr, OnOk};
 ghost use Rattle.al_msgpack.specs.declared.val.Val.TheVariants as values;
 ghost use Rattle.al_msgpack.specs.Spelled.{IsFront, spelled};
-ghost use Rattle.al_record.specs.Columns.{Reads};
+ghost use Rattle.al_record.specs.Code.{count_some};
 ghost use Rattle.al_record.specs.Canonical.{canonical, are_canonical};
 ghost use Rattle.al_txn.specs.Ids.{txid_of};
-ghost use Rattle.al_txn.specs.Item.{ReadsItem, most_effects, item};
-ghost use Rattle.al_txn.specs.Txn.{txn};
+ghost use Rattle.al_txn.specs.Item.{ReadsItem, effects_put, item, item_front, most_effects};
 
-use crate::{Effect, Item, Txn};
+use crate::record::read_txn;
+use crate::{Effect, Item};
 use al_base::{Bytes, Hash};
 use al_digest::{Prefix, digest};
 use al_msgpack::{Entry, Val, write_map_head, write_string};
@@ -59,27 +59,32 @@ impl Record for Item {
             return Err(range(alloc, "fx"));
         }
         let effects = read_all::<Effect>(alloc, vals)?;
-        let txn = Txn::read(alloc, map(entries, "txn"))?;
+        let txn = read_txn(alloc, map(entries, "txn"))?;
         Ok(Item { txn, effects })
     }
 
-    fn is_empty(&self) -> bool {
-        false
-    }
-
     fn write(&self, out: &mut Vec<u8>) -> Result<(), AllocError> {
-        write_front(self, out)?;
+        write_front(self.effects.as_slice(), out)?;
         self.txn.write(out)
     }
 }
 
-/// Appends what stands before the transaction in the record of an entry.
-fn write_front(member: &Item, out: &mut Vec<u8>) -> Result<(), AllocError>
-    ensures bytes { IfOk result (λ _. out.new.items ++ spelled (values.Map (txn.write member.now.txn)) ≡ out.old.items ++ spelled (values.Map (item.write member.now))) }
-    ensures front { IsFront out.old.items out.new.items }
+/// How many fields the record of an entry with these effects has.
+fn count_fields(effects: &[Effect]) -> usize
+    ensures { result ≡ suc (count_some (effects_put effects.now ∷ [])) }
 {
-    let effects = member.effects.as_slice();
-    write_map_head(if effects.is_empty() { 1 } else { 2 }, out)?;
+    if effects.is_empty() {
+        return 1;
+    }
+    2
+}
+
+/// Appends what stands before the transaction in the record of an entry.
+fn write_front(effects: &[Effect], out: &mut Vec<u8>) -> Result<(), AllocError>
+    ensures bytes { OnOk result (out.new.items ≡ out.old.items ++ item_front effects.now) }
+    ensures front { OnErr result (IsFront out.old.items out.new.items) }
+{
+    write_map_head(count_fields(effects), out)?;
     write_records("fx", effects, out)?;
     write_string(b"txn", out)
 }
@@ -90,7 +95,7 @@ pub fn write_with_id(member: &Item, out: &mut Vec<u8>) -> Result<Hash, AllocErro
     ensures id { IfOk result (λ id. id ≡ txid_of member.now.txn) }
     ensures front { IfErr result (λ _. IsFront out.old.items out.new.items) }
 {
-    write_front(member, out)?;
+    write_front(member.effects.as_slice(), out)?;
     let start = out.len();
     member.txn.write(out)?;
     Ok(digest(Prefix::Tx, &out[start..]))

@@ -15,11 +15,11 @@ use crate::transfer::{read_move, write_move};
 use crate::{Body, Txn};
 use al_base::Hash;
 use al_msgpack::Entry;
-use al_record::{ReadError, Record, range, text_kind};
+use al_record::{InnerRecord, ReadError, Record, range, text_kind};
 use std::alloc::{AllocError, Global};
 
 /// The transaction of a record, or the first fault.
-fn read_txn(alloc: Global, entries: &[Entry]) -> Result<Txn, ReadError>
+pub fn read_txn(alloc: Global, entries: &[Entry]) -> Result<Txn, ReadError>
     requires { IsTrue (are_canonical entries.now) }
     ensures { Reads txn entries.now result }
 {
@@ -54,12 +54,14 @@ impl Record for Txn {
         read_txn(alloc, entries)
     }
 
-    fn is_empty(&self) -> bool {
-        false
-    }
-
     fn write(&self, out: &mut Vec<u8>) -> Result<(), AllocError> {
         write_in_group(self, &self.group, out)
+    }
+}
+
+impl InnerRecord for Txn {
+    fn is_empty(&self) -> bool {
+        false
     }
 }
 
