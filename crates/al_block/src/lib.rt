@@ -21,6 +21,3 @@ pub use header::{Field, Header};
 pub use header_record::read_header;
 pub use laws::block_laws;
 pub use payset::{PaysetHashes, payset_hashes};
-
-#[cfg(test)]
-mod tests;

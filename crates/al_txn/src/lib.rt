@@ -32,6 +32,3 @@ pub use id::{encode_txn, group_id, txid};
 pub use item::{ItemFault, decode_item, write_with_id};
 pub use laws::txn_laws;
 pub use txn::{Item, Items, Txn};
-
-#[cfg(test)]
-mod tests;

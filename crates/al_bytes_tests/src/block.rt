@@ -1,4 +1,5 @@
-use super::*;
+//! Tests of al_block: hashes, first faults, and blocks read and written back.
+use al_block::{BlockFault, decode_block, encode_block, header_hash, payset_hash, payset_hashes};
 use al_msgpack::DecodeFault;
 use std::test::*;
 
@@ -10,6 +11,12 @@ const PAYMENT: &[u8; 373] =
 const PAYMENT_HASH: [u8; 32] = [
     26, 99, 134, 179, 155, 64, 231, 216, 24, 113, 179, 227, 184, 167, 96, 226, 249, 66, 86, 136,
     94, 206, 80, 133, 11, 206, 182, 104, 62, 34, 251, 165,
+];
+
+/// SHA-512/256 of `TX` and its payment.
+const PAYMENT_ID: [u8; 32] = [
+    158, 39, 87, 161, 234, 46, 232, 57, 26, 147, 200, 205, 210, 110, 210, 53, 212, 8, 21, 76, 146,
+    57, 13, 54, 120, 181, 122, 117, 122, 139, 190, 102,
 ];
 
 /// Block 1 of the same chain, without a transaction.
@@ -33,6 +40,10 @@ fn blocks_and_hashes(rt: HostRuntime) -> Result<(), Fail> {
         let header = block.header.copy(rt.alloc())?;
         assert_eq!(rt; header_hash(rt.alloc(), &header)?, hash);
         assert_eq!(rt; payset_hash(rt.alloc(), &block)?, block.header.payset);
+        let hashes = payset_hashes(rt.alloc(), &block)?;
+        assert_eq!(rt; hashes.payset, block.header.payset);
+        assert_eq!(rt; hashes.ids.len(), count);
+        assert!(rt; hashes.ids.iter().all(|id| *id == PAYMENT_ID));
         let mut out = Vec::new(rt.alloc());
         encode_block(rt.alloc(), &block, &mut out)?;
         assert_eq!(rt; out.as_slice(), input);

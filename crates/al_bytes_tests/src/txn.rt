@@ -1,6 +1,7 @@
-use super::*;
+//! Tests of al_bodies and al_txn: ids, first faults, and each type and effect read and written back.
 use al_msgpack::{Val, decode, write};
 use al_record::Record;
+use al_txn::{Body, ItemFault, Pay, decode_item, encode_txn, group_id, txid};
 use std::test::*;
 
 /// A payment of 300,000 microAlgos from the address of bytes 3 to that of bytes 4.
