@@ -1,10 +1,13 @@
 //! The record of a block.
-ghost use Rattle.std.specs.Prelude.{◌≡◌, ◌≤◌, length, IsTrue};
-ghost use Rattle.al_block.specs.Block.{block, count_unless};
+ghost use Rattle.std.specs.Prelude.{◌≡◌, ◌≤◌, ◌∷◌, [], length, IsTrue};
 ghost use Rattle.al_record.specs.Canonical.{are_canonical};
+ghost use Rattle.al_record.specs.Columns.{map_put};
+ghost use Rattle.al_record.specs.Code.{count_some};
+ghost use Rattle.al_block.specs.Block.{block, items_put};
+ghost use Rattle.al_block.specs.Header.{header};
 
-use crate::Block;
 use crate::header_record::read_header;
+use crate::{Block, Header};
 use al_msgpack::{Entry, write_map_head};
 use al_record::{
     Column, InnerRecord, ReadError, Record, Shape, check_fields, list, map, read_all, write_record,
@@ -36,13 +39,25 @@ impl Record for Block {
 fn count_fields(b: &Block) -> usize
     ensures { result ≡ length (block.write b.now) }
 {
-    let header = count_one(b.header.is_empty());
-    header + count_one(b.items.as_slice().is_empty())
+    count_header(&b.header) + count_items(b.items.as_slice())
 }
 
-fn count_one(absent: bool) -> usize
-    ensures value { result ≡ count_unless absent }
+fn count_header(h: &Header) -> usize
+    ensures value { result ≡ count_some (map_put (header.write h.now) ∷ []) }
     ensures most { result ≤ 1 }
 {
-    if absent { 0 } else { 1 }
+    if h.is_empty() {
+        return 0;
+    }
+    1
+}
+
+fn count_items(items: &[Item]) -> usize
+    ensures value { result ≡ count_some (items_put items.now ∷ []) }
+    ensures most { result ≤ 1 }
+{
+    if items.is_empty() {
+        return 0;
+    }
+    1
 }

@@ -4,7 +4,7 @@ ghost use Rattle.al_msgpack.specs.declared.val.Val.TheVariants as values;
 ghost use Rattle.al_msgpack.specs.Spelled.{spelled};
 ghost use Rattle.al_record.specs.Columns.{put};
 ghost use Rattle.al_record.specs.Code.{put_of};
-ghost use Rattle.al_rewards.specs.Record.{SpellsOneTotals, SpellsTotals, totals};
+ghost use Rattle.al_rewards.specs.Record.{SpellsOneTotals, SpellsTotals, totals, totals_fields};
 
 use crate::{Count, Totals};
 use al_msgpack::Entry;
@@ -59,13 +59,13 @@ fn contents<'a>(t: &'a Totals) -> [Content<'a>; 7]
     ensures { map put_of result ≡ map (λ f. put f t.now) totals_fields }
 {
     [
-        Content::Number(self.offline.money),
-        Content::Number(self.offline.units),
-        Content::Number(self.level),
-        Content::Number(self.online.money),
-        Content::Number(self.online.units),
-        Content::Number(self.apart.money),
-        Content::Number(self.apart.units),
+        Content::Number(t.offline.money),
+        Content::Number(t.offline.units),
+        Content::Number(t.level),
+        Content::Number(t.online.money),
+        Content::Number(t.online.units),
+        Content::Number(t.apart.money),
+        Content::Number(t.apart.units),
     ]
 }
 

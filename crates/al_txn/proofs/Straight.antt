@@ -1,5 +1,8 @@
 -- What is appended of transactions and entries.
-use Rattle.std.proofs.Common.{◌≡◌, ◌==◌, ℕ, suc, ◌+◌, true, false, codes, List, [], ◌∷◌, ◌++◌, length, Option, Some, None, refl, sym, ap, ◌∙◌, arith, append_assoc}
+use Rattle.std.proofs.Common.{◌≡◌, ◌==◌, ◌≤◌, ℕ, suc, ◌+◌, true, false, codes, List, [], ◌∷◌, ◌++◌, length, OnErr, Result, Ok, Err, take, drop, ◌-◌, Option, Some, None, refl, sym, ap, ◌∙◌, arith, append_assoc}
+use Rattle.std.proofs.lemmas.Bool.{eqb-true}
+use Rattle.std.proofs.lemmas.List.{length-append, take_all}
+use Rattle.std.proofs.Transfers.{drop-appended}
 use Rattle.al_msgpack.specs.declared.val.Val.{Val}
 use Rattle.al_msgpack.specs.declared.val.Val.TheVariants as values
 use Rattle.al_msgpack.specs.declared.val.Entry.{Entry}
@@ -35,7 +38,7 @@ map_there (e ∷ es) h = refl
 
 pub no_effects : (xs : List Effect) → (length xs == 0) ≡ true → 1 ≡ suc (count_some (effects_put xs ∷ []))
 no_effects [] h = refl
-no_effects (x ∷ xs) h = absurd cc
+no_effects (x ∷ xs) h = (let e = eqb-true _ _ h in absurd (omega (arith, e)))
 
 pub some_effects : (xs : List Effect) → (length xs == 0) ≡ false → 2 ≡ suc (count_some (effects_put xs ∷ []))
 some_effects [] h = absurd cc
@@ -69,3 +72,21 @@ item_spelled i =
 
 pub item_behind : (old mid new : List ℕ) (i : Item) → mid ≡ old ++ item_front i.effects → new ≡ mid ++ spelled (values.Map (txn.write i.txn)) → new ≡ old ++ spelled (values.Map (item.write i))
 item_behind old mid new i p q = q ∙ ap (λ z. z ++ spelled (values.Map (txn.write i.txn))) p ∙ append_assoc old (item_front i.effects) (spelled (values.Map (txn.write i.txn))) ∙ ap (λ z. old ++ z) (item_spelled i)
+
+pub count_most : (os : List (Option Val)) → count_some os ≤ length os
+count_most [] = omega arith
+count_most (None ∷ os) = (let h = count_most os in omega (arith, h))
+count_most (Some v ∷ os) = (let h = count_most os in omega (arith, h))
+
+-- what was appended last
+pub last_part : (mid new part w : List ℕ) (n : ℕ) → n ≡ length mid → part ≡ new → new ≡ mid ++ w → take (length part - n) (drop n part) ≡ w
+last_part mid new part w n counts same whole =
+    let e : part ≡ mid ++ w = same ∙ whole in
+    let size : length (mid ++ w) - length mid ≡ length w = (let h = length-append mid w in omega (arith, h)) in
+    let rest : drop (length mid) (mid ++ w) ≡ w = drop-appended mid (mid ++ w) w refl in
+    rw (counts, e, size, rest) (take_all (length w) w (omega arith))
+
+-- what holds anyhow holds after a refusal
+pub on_err : {T E : Type 0} (r : Result T E) (P : Type 0) → P → OnErr r P
+on_err (Ok x) P p = tt
+on_err (Err e) P p = p
