@@ -1,12 +1,13 @@
 -- Blocks, and what an input is that should be one.
-use Rattle.std.specs.Prelude.{◌≡◌, nat_le, ℕ, codes, length, List, [], ◌∷◌, Option, Some, None, Result, Ok, Err}
+use Rattle.std.specs.Prelude.{◌≡◌, nat_le, ℕ, map, codes, length, List, [], ◌∷◌, Option, Some, None, Result, Ok, Err}
 use Rattle.al_msgpack.specs.declared.val.Val.{Val, out-Val}
 use Rattle.al_msgpack.specs.declared.val.Val.TheVariants as values
 use Rattle.al_msgpack.specs.Places.{IsSpelling, Means}
 use Rattle.al_record.specs.declared.fault.Fault.{Fault}
 use Rattle.al_record.specs.declared.fault.Fault.TheVariants.{Field, Range}
 use Rattle.al_record.specs.declared.fault.ReadError.{ReadError}
-use Rattle.al_record.specs.Columns.{FieldOf, Fails, Format, record_field, records_field, table, member_open, first_of, unless_range}
+use Rattle.al_record.specs.Columns.{FieldOf, Fails, Format, list_put, record_field, records_field, table, member_open, first_of, unless_range}
+use Rattle.al_txn.specs.declared.txn.Item.{Item}
 use Rattle.al_txn.specs.Item.{item}
 use Rattle.al_block.specs.declared.block.Block.{Block}
 use Rattle.al_block.specs.declared.decoding.BlockFault.{BlockFault}
@@ -21,6 +22,10 @@ block_fields =
 
 abbrev pub block : Format Block
 block = table block_fields
+
+-- the list of the entries' records, unless there is none
+abbrev pub items_put : List Item → Option Val
+items_put items = list_put (map (λ es. values.Map es) (map item.write items))
 
 -- the most bytes of a block's spelling
 abbrev pub most_bytes : ℕ

@@ -1,13 +1,17 @@
 //! The record of a block.
-ghost use Rattle.std.specs.Prelude.{◌≡◌, IsTrue, IfOk};
+ghost use Rattle.std.specs.Prelude.{◌≡◌, ◌≤◌, ◌∷◌, [], length, IsTrue};
 ghost use Rattle.al_record.specs.Canonical.{are_canonical};
+ghost use Rattle.al_record.specs.Columns.{map_put};
+ghost use Rattle.al_record.specs.Code.{count_some};
+ghost use Rattle.al_block.specs.Block.{block, items_put};
+ghost use Rattle.al_block.specs.Header.{header};
 
-use crate::Block;
-use crate::header_record::{header_entries, read_header};
-use al_msgpack::{Entries, Entry, Val, write};
+use crate::header_record::read_header;
+use crate::{Block, Header};
+use al_msgpack::{Entry, write_map_head};
 use al_record::{
-    Column, ReadError, Record, Shape, check_fields, list, list_of_all, map, put_list, put_map,
-    read_all,
+    Column, InnerRecord, ReadError, Record, Shape, check_fields, list, map, read_all, write_record,
+    write_records,
 };
 use al_txn::Item;
 use std::alloc::{AllocError, Global};
@@ -15,8 +19,6 @@ use std::alloc::{AllocError, Global};
 const BLOCK: [Column; 2] = [Column("b", Shape::Map), Column("t", Shape::List)];
 
 impl Record for Block {
-    ghost use Rattle.al_block.specs.Block.{block};
-
     ghost format = { block };
 
     fn read(alloc: Global, entries: &[Entry]) -> Result<Block, ReadError> {
@@ -26,16 +28,36 @@ impl Record for Block {
         Ok(Block { header, items })
     }
 
-    fn entries(&self, alloc: Global) -> Result<Entries, AllocError> {
-        let mut out = Entries::new(alloc);
-        put_map(alloc, &mut out, "b", header_entries(alloc, &self.header)?)?;
-        let items = list_of_all(alloc, self.items.as_slice())?;
-        put_list(alloc, &mut out, "t", items)?;
-        Ok(out)
-    }
-
     fn write(&self, out: &mut Vec<u8>) -> Result<(), AllocError> {
-        let alloc = *out.allocator();
-        write(&Val::Map(self.entries(alloc)?), out)
+        write_map_head(count_fields(self), out)?;
+        write_record("b", &self.header, out)?;
+        write_records("t", self.items.as_slice(), out)
     }
+}
+
+/// How many fields the record has.
+fn count_fields(b: &Block) -> usize
+    ensures { result ≡ length (block.write b.now) }
+{
+    count_header(&b.header) + count_items(b.items.as_slice())
+}
+
+fn count_header(h: &Header) -> usize
+    ensures value { result ≡ count_some (map_put (header.write h.now) ∷ []) }
+    ensures most { result ≤ 1 }
+{
+    if h.is_empty() {
+        return 0;
+    }
+    1
+}
+
+fn count_items(items: &[Item]) -> usize
+    ensures value { result ≡ count_some (items_put items.now ∷ []) }
+    ensures most { result ≤ 1 }
+{
+    if items.is_empty() {
+        return 0;
+    }
+    1
 }

@@ -1,5 +1,5 @@
 //! Blocks from bytes, and bytes of blocks.
-ghost use Rattle.std.specs.Prelude.{◌≡◌, ◌++◌, ◌<◌, ◌^◌, ℕ, List, Result, length, IsTrue, IfOk, OnErr, OnOk};
+ghost use Rattle.std.specs.Prelude.{◌≡◌, ◌++◌, ◌<◌, ◌^◌, ℕ, List, Result, length, IsTrue, OnErr, OnOk};
 ghost use Rattle.al_msgpack.specs.declared.val.Val.TheVariants as values;
 ghost use Rattle.al_msgpack.specs.Rising.{canonical};
 ghost use Rattle.al_msgpack.specs.Spelled.{spelled};
@@ -9,8 +9,8 @@ ghost use Rattle.al_block.specs.declared.decoding.BlockFault.{BlockFault};
 
 use crate::Block;
 use al_base::Bytes;
-use al_msgpack::{DecodeFault, Val, decode, write};
-use al_record::{Fault, ReadError, Record, range, read_member};
+use al_msgpack::{DecodeFault, Val, decode};
+use al_record::{Fault, ReadError, encode_record, range, read_member};
 use std::alloc::{AllocError, Global};
 
 /// The most bytes of a block's spelling.
@@ -79,27 +79,10 @@ fn read_sized(alloc: Global, v: &Val, size: usize) -> Result<Block, ReadError>
 
 /// Appends the spelling of a block's record: the very bytes that it was decoded from. Nothing is
 /// appended where memory is short.
-pub fn encode_block(alloc: Global, b: &Block, out: &mut Vec<u8>) -> Result<(), AllocError>
+pub fn encode_block(b: &Block, out: &mut Vec<u8>) -> Result<(), AllocError>
     ensures bytes { OnOk result (out.new.items ≡ out.old.items ++ spelled (values.Map (block.write b.now))) }
     ensures back { (input : List ℕ) → IsBlock input b.now → OnOk result (out.new.items ≡ out.old.items ++ input) }
     ensures err { OnErr result (out.new.items ≡ out.old.items) }
 {
-    append(alloc, b, out)
-}
-
-fn append(alloc: Global, b: &Block, out: &mut Vec<u8>) -> Result<(), AllocError>
-    ensures bytes { OnOk result (out.new.items ≡ out.old.items ++ spelled (values.Map (block.write b.now))) }
-    ensures err { OnErr result (out.new.items ≡ out.old.items) }
-{
-    let bytes = bytes_of(alloc, b)?;
-    out.extend_from_slice(&bytes)
-}
-
-// The spelling of a block's record.
-fn bytes_of(alloc: Global, b: &Block) -> Result<Vec<u8>, AllocError>
-    ensures { IfOk result (λ bytes. bytes.items ≡ spelled (values.Map (block.write b.now))) }
-{
-    let mut bytes = Vec::new(alloc);
-    write(&Val::Map(b.entries(alloc)?), &mut bytes)?;
-    Ok(bytes)
+    encode_record(b, out)
 }

@@ -2,21 +2,20 @@
 ghost use Rattle.std.specs.Prelude.{◌≡◌, ◌+◌, ◌<◌, ◌≤◌, drop, length, IfOk};
 ghost use Rattle.al_block.specs.Hashes.{header_hash_of, payset_hash_of, group_size, run};
 
-use crate::header_record::header_entries;
 use crate::{Block, Header};
 use al_base::Hash;
-use al_digest::Prefix;
-use al_msgpack::Val;
-use al_record::list_of_all;
-use al_txn::{Item, digest_val};
+use al_digest::{Prefix, digest};
+use al_record::{Record, write_list_of};
+use al_txn::Item;
 use std::alloc::{AllocError, Global};
 
 /// The hash of a block: SHA-512/256 of `BH` and its header's spelling.
 pub fn header_hash(alloc: Global, h: &Header) -> Result<Hash, AllocError>
     ensures { IfOk result (λ hash. hash ≡ header_hash_of h.now) }
 {
-    let entries = header_entries(alloc, h)?;
-    digest_val(alloc, Prefix::Header, &Val::Map(entries))
+    let mut bytes = Vec::new(alloc);
+    h.write(&mut bytes)?;
+    Ok(digest(Prefix::Header, bytes.as_slice()))
 }
 
 /// SHA-512/256 of `PL` and the spelling of the list of the block's entries, which the header's
@@ -24,8 +23,9 @@ pub fn header_hash(alloc: Global, h: &Header) -> Result<Hash, AllocError>
 pub fn payset_hash(alloc: Global, b: &Block) -> Result<Hash, AllocError>
     ensures { IfOk result (λ hash. hash ≡ payset_hash_of b.now.items) }
 {
-    let items = list_of_all(alloc, b.items.as_slice())?;
-    digest_val(alloc, Prefix::Payset, &Val::List(items))
+    let mut bytes = Vec::new(alloc);
+    write_list_of(b.items.as_slice(), &mut bytes)?;
+    Ok(digest(Prefix::Payset, bytes.as_slice()))
 }
 
 /// The end of the group that begins at a place: of the longest run of entries with one group id

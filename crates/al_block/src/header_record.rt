@@ -1,14 +1,16 @@
 //! The record of a header.
-ghost use Rattle.std.specs.Prelude.{◌≡◌, IsTrue, IfOk};
-ghost use Rattle.al_record.specs.Columns.{Reads};
+ghost use Rattle.std.specs.Prelude.{◌≡◌, map, IsTrue};
+ghost use Rattle.al_record.specs.Columns.{Reads, put};
+ghost use Rattle.al_record.specs.Code.{put_of};
 ghost use Rattle.al_record.specs.Canonical.{are_canonical};
-ghost use Rattle.al_block.specs.Header.{header};
+ghost use Rattle.al_block.specs.Header.{header, header_fields};
 
 use crate::Header;
 use al_base::Address;
-use al_msgpack::{Entries, Entry};
+use al_msgpack::Entry;
 use al_record::{
-    COUNT, Column, Content, HASH, ReadError, Shape, addresses, array, check, listed, number,
+    COUNT, Column, Content, HASH, InnerRecord, ReadError, Record, Shape, addresses, array, check,
+    count_written, number, write_listed,
 };
 use std::alloc::{AllocError, Global};
 
@@ -51,27 +53,43 @@ pub fn read_header(alloc: Global, entries: &[Entry]) -> Result<Header, ReadError
     })
 }
 
-/// The record of a header.
-pub fn header_entries(alloc: Global, h: &Header) -> Result<Entries, AllocError>
-    ensures { IfOk result (λ es. es ≡ header.write h.now) }
+/// What stands under each name.
+fn contents<'a>(h: &'a Header) -> [Content<'a>; 13]
+    ensures { map put_of result ≡ map (λ f. put f h.now) header_fields }
 {
-    listed(
-        alloc,
-        &HEADER,
-        &[
-            Content::Number(h.level),
-            Content::Addresses(h.expired.as_slice()),
-            Content::Array(&h.sink.0),
-            Content::Number(h.residue),
-            Content::Array(&h.genesis_hash),
-            Content::Array(&h.prev),
-            Content::Number(h.rate),
-            Content::Number(h.round),
-            Content::Number(h.recalc),
-            Content::Array(&h.pool.0),
-            Content::Number(h.counter),
-            Content::Number(h.ts),
-            Content::Array(&h.payset),
-        ],
-    )
+    [
+        Content::Number(h.level),
+        Content::Addresses(h.expired.as_slice()),
+        Content::Array(&h.sink.0),
+        Content::Number(h.residue),
+        Content::Array(&h.genesis_hash),
+        Content::Array(&h.prev),
+        Content::Number(h.rate),
+        Content::Number(h.round),
+        Content::Number(h.recalc),
+        Content::Array(&h.pool.0),
+        Content::Number(h.counter),
+        Content::Number(h.ts),
+        Content::Array(&h.payset),
+    ]
+}
+
+impl Record for Header {
+    ghost use Rattle.al_block.specs.Header.{header};
+
+    ghost format = { header };
+
+    fn read(alloc: Global, entries: &[Entry]) -> Result<Header, ReadError> {
+        read_header(alloc, entries)
+    }
+
+    fn write(&self, out: &mut Vec<u8>) -> Result<(), AllocError> {
+        write_listed(&HEADER, &contents(self), out)
+    }
+}
+
+impl InnerRecord for Header {
+    fn is_empty(&self) -> bool {
+        count_written(&contents(self)) == 0
+    }
 }

@@ -18,6 +18,6 @@ pub use block::Block;
 pub use decoding::{BlockFault, decode_block, encode_block};
 pub use hashing::{group_end, header_hash, payset_hash};
 pub use header::{Field, Header};
-pub use header_record::{header_entries, read_header};
+pub use header_record::read_header;
 pub use laws::block_laws;
 pub use payset::{PaysetHashes, payset_hashes};

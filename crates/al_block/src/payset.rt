@@ -1,12 +1,16 @@
 //! The digest of a payset with the ids of its transactions.
-ghost use Rattle.std.specs.Prelude.{◌≡◌, map, IfOk};
+ghost use Rattle.std.specs.Prelude.{◌≡◌, ◌++◌, map, IfOk};
+ghost use Rattle.al_msgpack.specs.declared.val.Val.TheVariants as values;
+ghost use Rattle.al_msgpack.specs.Spelled.{all_spelled};
 ghost use Rattle.al_txn.specs.Ids.{txid_of};
+ghost use Rattle.al_txn.specs.Item.{item};
 ghost use Rattle.al_block.specs.Hashes.{payset_hash_of};
 
 use crate::Block;
-use crate::hashing::payset_hash;
 use al_base::Hash;
-use al_txn::{Item, txid};
+use al_digest::{Prefix, digest};
+use al_msgpack::write_list_head;
+use al_txn::{Item, write_with_id};
 use std::alloc::{AllocError, Global};
 
 /// The digest of a block's payset and the ids of its transactions.
@@ -23,18 +27,21 @@ pub fn payset_hashes(alloc: Global, b: &Block) -> Result<PaysetHashes, AllocErro
     ensures payset { IfOk result (λ h. h.payset ≡ payset_hash_of b.now.items) }
     ensures ids { IfOk result (λ h. h.ids.items ≡ map (λ i. txid_of i.txn) b.now.items) }
 {
-    let payset = payset_hash(alloc, b)?;
-    let ids = ids_of(alloc, b.items.as_slice())?;
+    let mut bytes = Vec::new(alloc);
+    write_list_head(b.items.len(), &mut bytes)?;
+    let ids = write_items(alloc, b.items.as_slice(), &mut bytes)?;
+    let payset = digest(Prefix::Payset, bytes.as_slice());
     Ok(PaysetHashes { payset, ids })
 }
 
-// The ids of the transactions.
-fn ids_of(alloc: Global, items: &[Item]) -> Result<Vec<Hash>, AllocError>
-    ensures { IfOk result (λ ids. ids.items ≡ map (λ i. txid_of i.txn) items.now) }
+/// Appends the entries one behind the other, and gives the ids of the transactions.
+fn write_items(alloc: Global, items: &[Item], out: &mut Vec<u8>) -> Result<Vec<Hash>, AllocError>
+    ensures bytes { IfOk result (λ _. out.new.items ≡ out.old.items ++ all_spelled (map (λ es. values.Map es) (map item.write items.now))) }
+    ensures ids { IfOk result (λ ids. ids.items ≡ map (λ i. txid_of i.txn) items.now) }
 {
     let mut ids = Vec::new(alloc);
-    for item in items {
-        ids.push(txid(alloc, &item.txn)?)?;
+    for member in items {
+        ids.push(write_with_id(member, out)?)?;
     }
     Ok(ids)
 }

@@ -1,18 +1,19 @@
 //! The records of effects.
-ghost use Rattle.std.specs.Prelude.{◌≡◌, ◌∷◌, [], IsTrue, IfOk, IfErr, None, Ok, codes, length};
-ghost use Rattle.al_record.specs.Columns.{Reads, Fails, bytes_of, bytes_put, entries, number_put, value_at};
-ghost use Rattle.al_record.specs.Code.{listed, table_of};
+ghost use Rattle.std.specs.Prelude.{◌≡◌, ◌++◌, IsTrue, IfOk, IfErr, None, Ok, OnErr, OnOk, codes};
+ghost use Rattle.al_msgpack.specs.declared.val.Val.TheVariants as values;
+ghost use Rattle.al_msgpack.specs.Spelled.{IsFront, spelled};
+ghost use Rattle.al_record.specs.Columns.{Reads, Fails, bytes_of, entries, value_at};
 ghost use Rattle.al_record.specs.Kinds.{number_kind};
 ghost use Rattle.al_record.specs.Canonical.{are_canonical};
-ghost use Rattle.al_bodies.specs.Effect.{effect, name_fault, put_box, remove_box, whole_name};
+ghost use Rattle.al_bodies.specs.Effect.{effect, inner_effect, name_fault, put_box, remove_box, whole_name};
 
-use crate::Effect;
-use crate::inner::{inner_entries, read_inner};
+use crate::inner::read_inner;
+use crate::{Effect, Inner};
 use al_base::{Address, BoxName, Bytes};
-use al_msgpack::{Entries, Entry, Val, write};
+use al_msgpack::{Entry, write_map_head};
 use al_record::{
     Column, Content, HASH, ReadError, Record, Shape, array, bytes, bytes_of, check, check_fields,
-    check_ranges, find, listed, map, number, number_kind, put_map, range,
+    check_ranges, find, map, number, number_kind, range, write_field, write_listed, write_record,
 };
 use std::alloc::{AllocError, Global};
 
@@ -191,7 +192,7 @@ impl Record for Effect {
         }
     }
 
-    fn entries(&self, alloc: Global) -> Result<Entries, AllocError> {
+    fn write(&self, out: &mut Vec<u8>) -> Result<(), AllocError> {
         match self {
             Effect::Create {
                 global_uints,
@@ -200,8 +201,7 @@ impl Record for Effect {
                 local_slices,
                 extra_pages,
                 state,
-            } => listed(
-                alloc,
+            } => write_listed(
                 &CREATE,
                 &[
                     Content::Number(1),
@@ -212,77 +212,78 @@ impl Record for Effect {
                     Content::Number(*global_uints),
                     Content::Bytes(state),
                 ],
+                out,
             ),
             Effect::SetState { state } => {
-                listed(
-                    alloc,
+                write_listed(
                     &WITH_STATE,
                     &[Content::Number(2), Content::Bytes(state)],
+                    out,
                 )
             }
-            Effect::Remove => listed(alloc, &BARE, &[Content::Number(3)]),
+            Effect::Remove => write_listed(&BARE, &[Content::Number(3)], out),
             Effect::OptIn { state } => {
-                listed(
-                    alloc,
+                write_listed(
                     &WITH_STATE,
                     &[Content::Number(4), Content::Bytes(state)],
+                    out,
                 )
             }
-            Effect::SetLocal { who, state } => listed(
-                alloc,
+            Effect::SetLocal { who, state } => write_listed(
                 &SET_LOCAL,
                 &[
                     Content::Array(&who.0),
                     Content::Number(5),
                     Content::Bytes(state),
                 ],
+                out,
             ),
-            Effect::OptOut => listed(alloc, &BARE, &[Content::Number(6)]),
-            Effect::PutBox { name, value } => put_box_entries(alloc, *name, value),
-            Effect::RemoveBox { name } => remove_box_entries(alloc, *name),
-            Effect::Inner(inner) => {
-                let mut out = listed(alloc, &INNER[..1], &[Content::Number(9)])?;
-                put_map(alloc, &mut out, "t", inner_entries(alloc, inner)?)?;
-                Ok(out)
-            }
+            Effect::OptOut => write_listed(&BARE, &[Content::Number(6)], out),
+            Effect::PutBox { name, value } => write_put_box(name, value, out),
+            Effect::RemoveBox { name } => write_remove_box(*name, out),
+            Effect::Inner(inner) => write_inner_effect(inner, out),
         }
     }
-
-    fn write(&self, out: &mut Vec<u8>) -> Result<(), AllocError> {
-        let alloc = *out.allocator();
-        write(&Val::Map(self.entries(alloc)?), out)
-    }
 }
 
-fn put_box_entries(alloc: Global, name: BoxName, value: &Bytes) -> Result<Entries, AllocError>
-    ensures { IfOk result (λ es. es ≡ entries put_box (whole_name name, value.now)) }
-{
-    let mut out = named_entries(alloc, &PUT_BOX[..2], 7, name)?;
-    out.append(listed(alloc, &PUT_BOX[2..], &[Content::Bytes(value)])?)?;
-    Ok(out)
-}
-
-fn remove_box_entries(alloc: Global, name: BoxName) -> Result<Entries, AllocError>
-    ensures { IfOk result (λ es. es ≡ entries remove_box (whole_name name)) }
-{
-    named_entries(alloc, &REMOVE_BOX, 8, name)
-}
-
-/// The number of an effect and the name of a box.
 #[tactic(auto, using(crate::proofs::Names::whole_is))]
-fn named_entries(
-    alloc: Global,
-    columns: &[Column],
-    number: u64,
-    name: BoxName,
-) -> Result<Entries, AllocError>
-    requires { length columns.now ≡ 2 }
-    ensures { IfOk result (λ es. es ≡ listed (table_of columns.now) (number_put number ∷ bytes_put (whole_name name) ∷ [])) }
+fn write_put_box<'a>(
+    name: &'a BoxName,
+    value: &'a Bytes,
+    out: &mut Vec<u8>,
+) -> Result<(), AllocError>
+    ensures bytes { OnOk result (out.new.items ≡ out.old.items ++ spelled (values.Map (entries put_box (whole_name name.now, value.now)))) }
+    ensures front { OnErr result (IsFront out.old.items out.new.items) }
 {
-    let name = Bytes::of(alloc, name.as_slice())?;
-    listed(
-        alloc,
-        columns,
-        &[Content::Number(number), Content::Bytes(&name)],
+    let _name = *name;
+    write_listed(
+        &PUT_BOX,
+        &[
+            Content::Number(7),
+            Content::Slice(name.as_slice()),
+            Content::Bytes(value),
+        ],
+        out,
     )
+}
+
+#[tactic(auto, using(crate::proofs::Names::whole_is))]
+fn write_remove_box(name: BoxName, out: &mut Vec<u8>) -> Result<(), AllocError>
+    ensures bytes { OnOk result (out.new.items ≡ out.old.items ++ spelled (values.Map (entries remove_box (whole_name name)))) }
+    ensures front { OnErr result (IsFront out.old.items out.new.items) }
+{
+    write_listed(
+        &REMOVE_BOX,
+        &[Content::Number(8), Content::Slice(name.as_slice())],
+        out,
+    )
+}
+
+fn write_inner_effect(inner: &Inner, out: &mut Vec<u8>) -> Result<(), AllocError>
+    ensures bytes { OnOk result (out.new.items ≡ out.old.items ++ spelled (values.Map (entries inner_effect inner.now))) }
+    ensures front { OnErr result (IsFront out.old.items out.new.items) }
+{
+    write_map_head(2, out)?;
+    write_field("e", &Content::Number(9), out)?;
+    write_record("t", inner, out)
 }

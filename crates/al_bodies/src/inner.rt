@@ -1,14 +1,17 @@
 //! Inner transactions: a type and that type's own fields.
-ghost use Rattle.std.specs.Prelude.{◌≡◌, IsTrue, IfOk, codes, Ok};
-ghost use Rattle.al_record.specs.Columns.{Reads, entries};
+ghost use Rattle.std.specs.Prelude.{◌≡◌, IsTrue, codes, Ok};
+ghost use Rattle.al_record.specs.Columns.{Reads};
 ghost use Rattle.al_record.specs.Kinds.{text_kind};
 ghost use Rattle.al_record.specs.Canonical.{are_canonical};
-ghost use Rattle.al_bodies.specs.Effect.{inner_txn, inner_pay, inner_axfer};
+ghost use Rattle.al_bodies.specs.Effect.{inner_txn};
 
+use crate::Inner;
 use crate::body_record::{move_of, pay_of};
-use crate::{AssetMove, Inner, Pay};
-use al_msgpack::{Entries, Entry};
-use al_record::{Column, Content, HASH, ReadError, Shape, check, listed, range, text_kind};
+use al_msgpack::Entry;
+use al_record::{
+    Column, Content, HASH, InnerRecord, ReadError, Record, Shape, check, range, text_kind,
+    write_listed,
+};
 use std::alloc::{AllocError, Global};
 
 const INNER_PAY: [Column; 4] = [
@@ -39,6 +42,49 @@ pub fn read_inner(alloc: Global, entries: &[Entry]) -> Result<Inner, ReadError>
     }
 }
 
+impl Record for Inner {
+    ghost use Rattle.al_bodies.specs.Effect.{inner_txn};
+
+    ghost format = { inner_txn };
+
+    fn read(alloc: Global, entries: &[Entry]) -> Result<Inner, ReadError> {
+        read_inner(alloc, entries)
+    }
+
+    fn write(&self, out: &mut Vec<u8>) -> Result<(), AllocError> {
+        match self {
+            Inner::Pay(p) => write_listed(
+                &INNER_PAY,
+                &[
+                    Content::Number(p.amount),
+                    Content::Array(&p.close.0),
+                    Content::Array(&p.receiver.0),
+                    Content::Word("pay"),
+                ],
+                out,
+            ),
+            Inner::Move(m) => write_listed(
+                &INNER_MOVE,
+                &[
+                    Content::Number(m.amount),
+                    Content::Array(&m.close.0),
+                    Content::Array(&m.receiver.0),
+                    Content::Array(&m.source.0),
+                    Content::Word("axfer"),
+                    Content::Number(m.asset),
+                ],
+                out,
+            ),
+        }
+    }
+}
+
+impl InnerRecord for Inner {
+    fn is_empty(&self) -> bool {
+        false
+    }
+}
+
 fn read_inner_pay(alloc: Global, entries: &[Entry]) -> Result<Inner, ReadError>
     requires canonical { IsTrue (are_canonical entries.now) }
     requires kind { text_kind (codes "type") entries.now ≡ Ok (codes "pay") }
@@ -55,46 +101,4 @@ fn read_inner_move(alloc: Global, entries: &[Entry]) -> Result<Inner, ReadError>
 {
     check(alloc, entries, &INNER_MOVE)?;
     Ok(Inner::Move(move_of(entries)))
-}
-
-/// The record of an inner transaction.
-pub fn inner_entries(alloc: Global, inner: &Inner) -> Result<Entries, AllocError>
-    ensures { IfOk result (λ es. es ≡ inner_txn.write inner.now) }
-{
-    match inner {
-        Inner::Pay(p) => inner_pay_entries(alloc, p),
-        Inner::Move(m) => inner_move_entries(alloc, m),
-    }
-}
-
-fn inner_pay_entries(alloc: Global, p: &Pay) -> Result<Entries, AllocError>
-    ensures { IfOk result (λ es. es ≡ entries inner_pay p.now) }
-{
-    listed(
-        alloc,
-        &INNER_PAY,
-        &[
-            Content::Number(p.amount),
-            Content::Array(&p.close.0),
-            Content::Array(&p.receiver.0),
-            Content::Word("pay"),
-        ],
-    )
-}
-
-fn inner_move_entries(alloc: Global, m: &AssetMove) -> Result<Entries, AllocError>
-    ensures { IfOk result (λ es. es ≡ entries inner_axfer m.now) }
-{
-    listed(
-        alloc,
-        &INNER_MOVE,
-        &[
-            Content::Number(m.amount),
-            Content::Array(&m.close.0),
-            Content::Array(&m.receiver.0),
-            Content::Array(&m.source.0),
-            Content::Word("axfer"),
-            Content::Number(m.asset),
-        ],
-    )
 }

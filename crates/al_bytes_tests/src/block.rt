@@ -45,7 +45,7 @@ fn blocks_and_hashes(rt: HostRuntime) -> Result<(), Fail> {
         assert_eq!(rt; hashes.ids.len(), count);
         assert!(rt; hashes.ids.iter().all(|id| *id == PAYMENT_ID));
         let mut out = Vec::new(rt.alloc());
-        encode_block(rt.alloc(), &block, &mut out)?;
+        encode_block(&block, &mut out)?;
         assert_eq!(rt; out.as_slice(), input);
     }
     Ok(())

@@ -1,5 +1,5 @@
 //! Tests of al_bodies and al_txn: ids, first faults, and each type and effect read and written back.
-use al_msgpack::{Val, decode, write};
+use al_msgpack::decode;
 use al_record::Record;
 use al_txn::{Body, ItemFault, Pay, decode_item, encode_txn, group_id, txid};
 use std::test::*;
@@ -39,7 +39,7 @@ fn payment(rt: HostRuntime) -> Result<(), Fail> {
         )
     );
     let mut out = Vec::new(rt.alloc());
-    encode_txn(rt.alloc(), &item.txn, &mut out)?;
+    encode_txn(&item.txn, &mut out)?;
     assert_eq!(rt; out.as_slice(), PAYMENT.as_slice());
     assert_eq!(rt; txid(rt.alloc(), &item.txn)?, ID);
     assert_eq!(rt; group_id(rt.alloc(), &[item])?, GROUP);
@@ -138,7 +138,7 @@ fn read_and_written_back(rt: HostRuntime) -> Result<(), Fail> {
         let value = decode(rt.alloc(), input)?;
         let item = decode_item(rt.alloc(), &value)?;
         let mut out = Vec::new(rt.alloc());
-        write(&Val::Map(item.entries(rt.alloc())?), &mut out)?;
+        item.write(&mut out)?;
         assert_eq!(rt; out.as_slice(), input);
     }
     Ok(())

@@ -2,7 +2,11 @@
 ghost use Rattle.std.specs.Prelude.{◌≡◌, IsTrue, IfOk};
 ghost use Rattle.al_msgpack.specs.Rising.{canonical, are_canonical};
 ghost use Rattle.al_record.specs.Columns.{Reads, ReadsOne};
+<<<<<<< HEAD:crates/al_genesis/src/genesis_record.rt
 ghost use Rattle.al_genesis.specs.Genesis.{row, genesis};
+=======
+ghost use Rattle.al_eval.specs.Genesis.{account, row, genesis};
+>>>>>>> 7e1865242844cbbf17890399e316f0dd865592f9:crates/al_eval/src/genesis_record.rt
 
 use crate::genesis_fields::{FirstAccount, FirstRow, GenesisRecord, MOST_MONEY};
 use al_base::Address;
@@ -89,16 +93,19 @@ impl Record for FirstAccount {
         })
     }
 
-    fn entries(&self, alloc: Global) -> Result<Entries, AllocError> {
-        let mut out = listed(alloc, &ACCOUNT[..1], &[Content::Array(&self.address.0)])?;
-        put_map(alloc, &mut out, "row", row_entries(alloc, &self.row)?)?;
-        Ok(out)
-    }
-
     fn write(&self, out: &mut Vec<u8>) -> Result<(), AllocError> {
         let alloc = *out.allocator();
-        write(&Val::Map(self.entries(alloc)?), out)
+        write(&Val::Map(account_entries(alloc, self)?), out)
     }
+}
+
+/// The record of an account.
+fn account_entries(alloc: Global, a: &FirstAccount) -> Result<Entries, AllocError>
+    ensures { IfOk result (λ es. es ≡ account.write a.now) }
+{
+    let mut out = listed(alloc, &ACCOUNT[..1], &[Content::Array(&a.address.0)])?;
+    put_map(alloc, &mut out, "row", row_entries(alloc, &a.row)?)?;
+    Ok(out)
 }
 
 /// The fields of a genesis record, or the first fault.

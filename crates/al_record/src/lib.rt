@@ -29,8 +29,8 @@ pub use kind::{field, number_kind, range, text_kind};
 pub use lookup::{addresses, array, bytes, find, flag, list, map, number, text};
 pub use pass::{check, check_fields, check_ranges, fitting};
 pub use record::{
-    InnerRecord, Record, encode_record, list_of_all, read_all, read_member, write_list_of,
-    write_record, write_records,
+    InnerRecord, Record, encode_record, read_all, read_member, write_list_of, write_record,
+    write_records,
 };
 pub use shape::{ANY_BYTES, COUNT, Column, HASH, Shape};
 pub use spell::{count_written, write_field, write_fields, write_inner, write_listed};

@@ -1,5 +1,5 @@
 //! Lists of records.
-ghost use Rattle.std.specs.Prelude.{◌≡◌, ◌++◌, [], map, IsTrue, IfOk, OnErr, OnOk};
+ghost use Rattle.std.specs.Prelude.{◌≡◌, ◌++◌, [], map, IsTrue, OnErr, OnOk};
 ghost use Rattle.std.specs.List.{list_all};
 ghost use Rattle.al_msgpack.specs.Spelled.{IsFront, spelled, all_spelled, entries_spelled};
 ghost use Rattle.al_record.specs.Columns.{Reads, ReadsOne, ReadsAll, is_empty, list_put, map_put, with_entry};
@@ -7,7 +7,7 @@ ghost use Rattle.al_msgpack.specs.Rising.{canonical, are_canonical};
 
 use crate::fault::ReadError;
 use crate::kind::field;
-use al_msgpack::{Entries, Entry, Val, Vals, write_list_head, write_string};
+use al_msgpack::{Entry, Val, write_list_head, write_string};
 use sqlite_items::Items;
 use std::alloc::{AllocError, Global};
 
@@ -22,10 +22,6 @@ pub trait Record: Drop {
     fn read(alloc: Global, entries: &[Entry]) -> Result<Self, ReadError>
         requires { IsTrue (are_canonical entries.now) }
         ensures { Reads format entries.now result };
-
-    /// The entries of the record.
-    fn entries(&self, alloc: Global) -> Result<Entries, AllocError>
-        ensures { IfOk result (λ es. es ≡ format.write self.now) };
 
     /// Appends the record. Where memory is short, a part may stay behind what stood there.
     fn write(&self, out: &mut Vec<u8>) -> Result<(), AllocError>
@@ -64,17 +60,6 @@ pub fn read_member<R: Record>(alloc: Global, v: &Val) -> Result<R, ReadError>
         Val::Map(entries) => R::read(alloc, entries.as_slice()),
         _ => Err(field(alloc, "")),
     }
-}
-
-/// The list of the values' records.
-pub fn list_of_all<R: Record>(alloc: Global, values: &[R]) -> Result<Vals, AllocError>
-    ensures { IfOk result (λ vs. vs ≡ map (λ es. Val.Map es) (map R.format.write values.now)) }
-{
-    let mut out = Vals::new(alloc);
-    for value in values {
-        out.push(Val::Map(value.entries(alloc)?))?;
-    }
-    Ok(out)
 }
 
 /// Appends the records one behind the other.

@@ -1,12 +1,16 @@
 //! The record of totals.
-ghost use Rattle.std.specs.Prelude.{◌≡◌, ◌++◌, ℕ, List, IfOk, OnErr, OnOk};
+ghost use Rattle.std.specs.Prelude.{◌≡◌, ◌++◌, ℕ, List, map, OnErr, OnOk};
 ghost use Rattle.al_msgpack.specs.declared.val.Val.TheVariants as values;
 ghost use Rattle.al_msgpack.specs.Spelled.{spelled};
-ghost use Rattle.al_rewards.specs.Record.{SpellsOneTotals, SpellsTotals, totals};
+ghost use Rattle.al_record.specs.Columns.{put};
+ghost use Rattle.al_record.specs.Code.{put_of};
+ghost use Rattle.al_rewards.specs.Record.{SpellsOneTotals, SpellsTotals, totals, totals_fields};
 
 use crate::{Count, Totals};
-use al_msgpack::{Entries, Entry, Val, write};
-use al_record::{Column, Content, ReadError, Record, Shape, check, listed, number};
+use al_msgpack::Entry;
+use al_record::{
+    Column, Content, ReadError, Record, Shape, check, encode_record, number, write_listed,
+};
 use std::alloc::{AllocError, Global};
 
 /// Money and units of the accounts that are offline, the level, and the same of those that are
@@ -45,56 +49,44 @@ impl Record for Totals {
         })
     }
 
-    fn entries(&self, alloc: Global) -> Result<Entries, AllocError> {
-        listed(
-            alloc,
-            &TOTALS,
-            &[
-                Content::Number(self.offline.money),
-                Content::Number(self.offline.units),
-                Content::Number(self.level),
-                Content::Number(self.online.money),
-                Content::Number(self.online.units),
-                Content::Number(self.apart.money),
-                Content::Number(self.apart.units),
-            ],
-        )
-    }
-
     fn write(&self, out: &mut Vec<u8>) -> Result<(), AllocError> {
-        let alloc = *out.allocator();
-        write(&Val::Map(self.entries(alloc)?), out)
+        write_listed(&TOTALS, &contents(self), out)
     }
+}
+
+/// What stands under each name.
+fn contents<'a>(t: &'a Totals) -> [Content<'a>; 7]
+    ensures { map put_of result ≡ map (λ f. put f t.now) totals_fields }
+{
+    [
+        Content::Number(t.offline.money),
+        Content::Number(t.offline.units),
+        Content::Number(t.level),
+        Content::Number(t.online.money),
+        Content::Number(t.online.units),
+        Content::Number(t.apart.money),
+        Content::Number(t.apart.units),
+    ]
 }
 
 /// Appends the spelling of the totals' record, which has the fields `fm` and `fu` (money and units
 /// of the accounts that are offline), `l` (the level), `nm` and `nu` (online), `pm` and `pu` (not
 /// participating), each exactly where it is not zero. Nothing is appended where memory is short.
-pub fn encode_totals(alloc: Global, t: &Totals, out: &mut Vec<u8>) -> Result<(), AllocError>
+pub fn encode_totals(t: &Totals, out: &mut Vec<u8>) -> Result<(), AllocError>
     ensures bytes { OnOk result (out.new.items ≡ out.old.items ++ spelled (values.Map (totals.write t.now))) }
     ensures back { (input : List ℕ) → SpellsTotals t.now input → OnOk result (out.new.items ≡ out.old.items ++ input) }
     ensures spells { SpellsTotals t.now (spelled (values.Map (totals.write t.now))) }
     ensures err { OnErr result (out.new.items ≡ out.old.items) }
 {
-    append(alloc, *t, out)
+    append(*t, out)
 }
 
-fn append(alloc: Global, t: Totals, out: &mut Vec<u8>) -> Result<(), AllocError>
+fn append(t: Totals, out: &mut Vec<u8>) -> Result<(), AllocError>
     ensures bytes { OnOk result (out.new.items ≡ out.old.items ++ spelled (values.Map (totals.write t))) }
     ensures spells { SpellsTotals t (spelled (values.Map (totals.write t))) }
     ensures err { OnErr result (out.new.items ≡ out.old.items) }
 {
-    let bytes = spelling(alloc, &t)?;
-    out.extend_from_slice(&bytes)
-}
-
-// The spelling of the record.
-fn spelling(alloc: Global, t: &Totals) -> Result<Vec<u8>, AllocError>
-    ensures { IfOk result (λ bytes. bytes.items ≡ spelled (values.Map (totals.write t.now))) }
-{
-    let mut bytes = Vec::new(alloc);
-    write(&Val::Map(t.entries(alloc)?), &mut bytes)?;
-    Ok(bytes)
+    encode_record(&t, out)
 }
 
 /// Bytes spell the record of at most one value of totals.

@@ -162,7 +162,7 @@ fn spellings(rt: HostRuntime) -> Result<(), Fail> {
     ];
     for (all, want) in cases {
         let mut out = Vec::new(rt.alloc());
-        encode_totals(rt.alloc(), &all, &mut out)?;
+        encode_totals(&all, &mut out)?;
         assert_eq!(rt; out.as_slice(), want);
         assert!(rt; want.len() < 100);
         let value = decode(rt.alloc(), want)?;

@@ -45,7 +45,7 @@ whole t = record {
 }
 
 -- the word that names a body's type
-abbrev word : Body → List ℕ
+abbrev pub word : Body → List ℕ
 word (bodies.Pay p) = codes "pay"
 word (bodies.KeyReg k) = codes "keyreg"
 word (bodies.Config c) = codes "acfg"
@@ -66,7 +66,7 @@ call_kept t a = kept_merged a.rest (flat t a) a.kept (entries_others appl_txn (t
 call_named : (t : Txn) (a : AppCall) → value_at (codes "type") (merged a.rest (flat t a)) ≡ Some (values.Str (codes "appl"))
 call_named t a = sym (others_at (codes "type") (merged a.rest (flat t a)) refl) ∙ ap (value_at (codes "type")) (call_others t a) ∙ (all_put appl_txn (t, a) refl).1.1.1.1.1.1.1.1.1.1.1.0
 
-named : (t : Txn) (b : Body) → value_at (codes "type") (written t b) ≡ Some (values.Str (word b))
+pub named : (t : Txn) (b : Body) → value_at (codes "type") (written t b) ≡ Some (values.Str (word b))
 named t (bodies.Pay p) = (all_put pay_txn (t, p) refl).1.1.1.1.1.1.1.1.1.1.1.1.1.0
 named t (bodies.KeyReg k) = (all_put keyreg_txn (t, k) refl).1.1.1.1.1.1.1.1.1.1.1.1.1.0
 named t (bodies.Config c) = (all_put acfg_txn (t, c) refl).1.1.1.1.1.1.1.1.1.1.1.1.0

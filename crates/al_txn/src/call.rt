@@ -1,7 +1,9 @@
 //! Calls of applications.
-ghost use Rattle.std.specs.Prelude.{◌≡◌, IsTrue, IfOk, codes, Ok};
-ghost use Rattle.al_record.specs.Columns.{Reads, Passes, entries, field_fault, first_fault, heads, rules_of};
-ghost use Rattle.al_record.specs.Code.{table_of};
+ghost use Rattle.std.specs.Prelude.{◌≡◌, ◌++◌, map, IsTrue, OnErr, OnOk, codes, Ok};
+ghost use Rattle.al_msgpack.specs.declared.val.Val.TheVariants as values;
+ghost use Rattle.al_msgpack.specs.Spelled.{IsFront, spelled};
+ghost use Rattle.al_record.specs.Columns.{Reads, Passes, entries, field_fault, first_fault, heads, put, rules_of};
+ghost use Rattle.al_record.specs.Code.{put_of, table_of};
 ghost use Rattle.al_record.specs.Kinds.{text_kind};
 ghost use Rattle.al_record.specs.Canonical.{are_canonical};
 ghost use Rattle.al_bodies.specs.Kept.{others, merged};
@@ -10,11 +12,11 @@ ghost use Rattle.al_txn.specs.Txn.{txn, appl_txn, flat_appl, with_group};
 use crate::common::common;
 use crate::{AppCall, Body, Txn};
 use al_base::Hash;
-use al_bodies::{is_kept, kept, merged};
-use al_msgpack::{Entries, Entry};
+use al_bodies::{is_kept, kept, write_merged};
+use al_msgpack::{Entry, write_map_head};
 use al_record::{
-    ANY_BYTES, Column, Content, Fault, HASH, ReadError, Shape, check_ranges, fitting, listed,
-    number,
+    ANY_BYTES, Column, Content, Fault, HASH, ReadError, Shape, check_ranges, count_written,
+    fitting, number,
 };
 use std::alloc::{AllocError, Global};
 
@@ -66,44 +68,38 @@ fn check_others(alloc: Global, entries: &[Entry]) -> Result<(), ReadError>
     Ok(())
 }
 
-/// The record of a transaction of this type, with this group.
-pub fn call_entries<'a>(
-    alloc: Global,
+/// Appends the record of a transaction of this type, with this group.
+pub fn write_call<'a>(
     t: &'a Txn,
     group: &'a Hash,
     a: &'a AppCall,
-) -> Result<Entries, AllocError>
-    ensures { IfOk result (λ es. es ≡ merged a.now.rest (entries appl_txn (with_group group.now t.now, a.now))) }
+    out: &mut Vec<u8>,
+) -> Result<(), AllocError>
+    ensures bytes { OnOk result (out.new.items ≡ out.old.items ++ spelled (values.Map (merged a.now.rest (entries appl_txn (with_group group.now t.now, a.now))))) }
+    ensures front { OnErr result (IsFront out.old.items out.new.items) }
 {
-    let flat = flat_entries(alloc, t, group, a.app)?;
-    merged(alloc, a.rest.as_slice(), flat.as_slice())
+    let contents = contents(t, group, a.app);
+    let rest = a.rest.as_slice();
+    write_map_head(rest.len() + count_written(&contents), out)?;
+    write_merged(rest, &CALL, &contents, out)
 }
 
-/// The fields that are not kept.
-fn flat_entries<'a>(
-    alloc: Global,
-    t: &'a Txn,
-    group: &'a Hash,
-    app: u64,
-) -> Result<Entries, AllocError>
-    ensures { IfOk result (λ es. es ≡ entries flat_appl (with_group group.now t.now, app)) }
+/// What stands under each name that is not kept.
+fn contents<'a>(t: &'a Txn, group: &'a Hash, app: u64) -> [Content<'a>; 12]
+    ensures { map put_of result ≡ map (λ f. put f (with_group group.now t.now, app)) flat_appl }
 {
-    listed(
-        alloc,
-        &CALL,
-        &[
-            Content::Number(app),
-            Content::Number(t.fee),
-            Content::Number(t.first),
-            Content::Text(&t.genesis_id),
-            Content::Array(&t.genesis_hash),
-            Content::Array(group),
-            Content::Number(t.last),
-            Content::Array(&t.lease),
-            Content::Bytes(&t.note),
-            Content::Array(&t.rekey.0),
-            Content::Array(&t.sender.0),
-            Content::Word("appl"),
-        ],
-    )
+    [
+        Content::Number(app),
+        Content::Number(t.fee),
+        Content::Number(t.first),
+        Content::Text(&t.genesis_id),
+        Content::Array(&t.genesis_hash),
+        Content::Array(group),
+        Content::Number(t.last),
+        Content::Array(&t.lease),
+        Content::Bytes(&t.note),
+        Content::Array(&t.rekey.0),
+        Content::Array(&t.sender.0),
+        Content::Word("appl"),
+    ]
 }

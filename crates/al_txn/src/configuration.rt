@@ -1,6 +1,9 @@
 //! Assets created, reconfigured or destroyed.
-ghost use Rattle.std.specs.Prelude.{◌≡◌, IsTrue, IfOk, codes, Ok};
-ghost use Rattle.al_record.specs.Columns.{Reads, entries};
+ghost use Rattle.std.specs.Prelude.{◌≡◌, ◌++◌, map, IsTrue, OnErr, OnOk, codes, Ok};
+ghost use Rattle.al_msgpack.specs.declared.val.Val.TheVariants as values;
+ghost use Rattle.al_msgpack.specs.Spelled.{IsFront, spelled};
+ghost use Rattle.al_record.specs.Columns.{Reads, entries, put};
+ghost use Rattle.al_record.specs.Code.{put_of};
 ghost use Rattle.al_record.specs.Kinds.{text_kind};
 ghost use Rattle.al_record.specs.Canonical.{are_canonical};
 ghost use Rattle.al_txn.specs.Txn.{txn, acfg_txn, flat_acfg, with_group};
@@ -8,11 +11,11 @@ ghost use Rattle.al_txn.specs.Txn.{txn, acfg_txn, flat_acfg, with_group};
 use crate::common::common;
 use crate::{Body, Config, Txn};
 use al_base::Hash;
-use al_bodies::{params_entries, read_params};
-use al_msgpack::{Entries, Entry};
+use al_bodies::{count_params, read_params, write_params};
+use al_msgpack::{Entry, write_map_head};
 use al_record::{
-    ANY_BYTES, Column, Content, HASH, ReadError, Shape, check_fields, check_ranges, listed, map,
-    number, put_map,
+    ANY_BYTES, Column, Content, HASH, ReadError, Shape, check_fields, check_ranges, count_written,
+    map, number, write_fields,
 };
 use std::alloc::{AllocError, Global};
 
@@ -46,46 +49,38 @@ pub fn read_config(alloc: Global, entries: &[Entry]) -> Result<Txn, ReadError>
     Ok(common(alloc, entries, body)?)
 }
 
-/// The record of a transaction of this type, with this group.
-pub fn config_entries<'a>(
-    alloc: Global,
+/// Appends the record of a transaction of this type, with this group.
+pub fn write_config<'a>(
     t: &'a Txn,
     group: &'a Hash,
     c: &'a Config,
-) -> Result<Entries, AllocError>
-    ensures { IfOk result (λ es. es ≡ entries acfg_txn (with_group group.now t.now, c.now)) }
+    out: &mut Vec<u8>,
+) -> Result<(), AllocError>
+    ensures bytes { OnOk result (out.new.items ≡ out.old.items ++ spelled (values.Map (entries acfg_txn (with_group group.now t.now, c.now)))) }
+    ensures front { OnErr result (IsFront out.old.items out.new.items) }
 {
-    let mut out = Entries::new(alloc);
-    put_map(alloc, &mut out, "apar", params_entries(alloc, &c.params)?)?;
-    out.append(flat_entries(alloc, t, group, c.asset)?)?;
-    Ok(out)
+    let contents = contents(t, group, c.asset);
+    write_map_head(count_params(&c.params) + count_written(&contents), out)?;
+    write_params("apar", &c.params, out)?;
+    write_fields(&CONFIG[1..], &contents, out)
 }
 
-/// The fields after the parameters.
-fn flat_entries<'a>(
-    alloc: Global,
-    t: &'a Txn,
-    group: &'a Hash,
-    asset: u64,
-) -> Result<Entries, AllocError>
-    ensures { IfOk result (λ es. es ≡ entries flat_acfg (with_group group.now t.now, asset)) }
+/// What stands under each name behind the parameters.
+fn contents<'a>(t: &'a Txn, group: &'a Hash, asset: u64) -> [Content<'a>; 12]
+    ensures { map put_of result ≡ map (λ f. put f (with_group group.now t.now, asset)) flat_acfg }
 {
-    listed(
-        alloc,
-        &CONFIG[1..],
-        &[
-            Content::Number(asset),
-            Content::Number(t.fee),
-            Content::Number(t.first),
-            Content::Text(&t.genesis_id),
-            Content::Array(&t.genesis_hash),
-            Content::Array(group),
-            Content::Number(t.last),
-            Content::Array(&t.lease),
-            Content::Bytes(&t.note),
-            Content::Array(&t.rekey.0),
-            Content::Array(&t.sender.0),
-            Content::Word("acfg"),
-        ],
-    )
+    [
+        Content::Number(asset),
+        Content::Number(t.fee),
+        Content::Number(t.first),
+        Content::Text(&t.genesis_id),
+        Content::Array(&t.genesis_hash),
+        Content::Array(group),
+        Content::Number(t.last),
+        Content::Array(&t.lease),
+        Content::Bytes(&t.note),
+        Content::Array(&t.rekey.0),
+        Content::Array(&t.sender.0),
+        Content::Word("acfg"),
+    ]
 }

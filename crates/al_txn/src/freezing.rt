@@ -1,5 +1,7 @@
 //! Holdings frozen, or no longer.
-ghost use Rattle.std.specs.Prelude.{◌≡◌, IsTrue, IfOk, codes, Ok};
+ghost use Rattle.std.specs.Prelude.{◌≡◌, ◌++◌, IsTrue, OnErr, OnOk, codes, Ok};
+ghost use Rattle.al_msgpack.specs.declared.val.Val.TheVariants as values;
+ghost use Rattle.al_msgpack.specs.Spelled.{IsFront, spelled};
 ghost use Rattle.al_record.specs.Columns.{Reads, entries};
 ghost use Rattle.al_record.specs.Kinds.{text_kind};
 ghost use Rattle.al_record.specs.Canonical.{are_canonical};
@@ -9,8 +11,8 @@ use crate::common::common;
 use crate::{Body, Freeze, Txn};
 use al_base::Hash;
 use al_bodies::freeze_of;
-use al_msgpack::{Entries, Entry};
-use al_record::{ANY_BYTES, Column, Content, HASH, ReadError, Shape, check, listed};
+use al_msgpack::Entry;
+use al_record::{ANY_BYTES, Column, Content, HASH, ReadError, Shape, check, write_listed};
 use std::alloc::{AllocError, Global};
 
 const FREEZE: [Column; 14] = [
@@ -41,17 +43,17 @@ pub fn read_freeze(alloc: Global, entries: &[Entry]) -> Result<Txn, ReadError>
     Ok(common(alloc, entries, body)?)
 }
 
-/// The record of a transaction of this type, with this group.
-pub fn freeze_entries<'a>(
-    alloc: Global,
+/// Appends the record of a transaction of this type, with this group.
+pub fn write_freeze<'a>(
     t: &'a Txn,
     group: &'a Hash,
     f: &'a Freeze,
-) -> Result<Entries, AllocError>
-    ensures { IfOk result (λ es. es ≡ entries afrz_txn (with_group group.now t.now, f.now)) }
+    out: &mut Vec<u8>,
+) -> Result<(), AllocError>
+    ensures bytes { OnOk result (out.new.items ≡ out.old.items ++ spelled (values.Map (entries afrz_txn (with_group group.now t.now, f.now)))) }
+    ensures front { OnErr result (IsFront out.old.items out.new.items) }
 {
-    listed(
-        alloc,
+    write_listed(
         &FREEZE,
         &[
             Content::Flag(f.frozen),
@@ -69,5 +71,6 @@ pub fn freeze_entries<'a>(
             Content::Array(&t.sender.0),
             Content::Word("afrz"),
         ],
+        out,
     )
 }

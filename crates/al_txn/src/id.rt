@@ -3,66 +3,43 @@ ghost use Rattle.std.specs.Prelude.{◌≡◌, ◌++◌, ℕ, List, IfOk, OnErr,
 ghost use Rattle.al_msgpack.specs.declared.val.Val.TheVariants as values;
 ghost use Rattle.al_msgpack.specs.Places.{IsSpelling};
 ghost use Rattle.al_msgpack.specs.Spelled.{spelled};
-ghost use Rattle.al_digest.specs.Digests.{digest_of};
 ghost use Rattle.al_txn.specs.Txn.{txn};
 ghost use Rattle.al_txn.specs.Ids.{txid_of, group_id_of, ungrouped};
 
-use crate::record::{entries_in_group, txn_entries};
+use crate::record::write_in_group;
 use crate::{Item, Txn};
 use al_base::{Bytes, Hash};
 use al_digest::{Prefix, digest};
 use al_msgpack::{Entries, Val, Vals, write};
-use al_record::put_list;
+use al_record::{Record, encode_record, put_list};
 use std::alloc::{AllocError, Global};
 
 /// Appends the spelling of a transaction's record: the very bytes that it was read from. Nothing is
 /// appended where memory is short.
-pub fn encode_txn(alloc: Global, t: &Txn, out: &mut Vec<u8>) -> Result<(), AllocError>
+pub fn encode_txn(t: &Txn, out: &mut Vec<u8>) -> Result<(), AllocError>
     ensures bytes { OnOk result (out.new.items ≡ out.old.items ++ spelled (values.Map (txn.write t.now))) }
     ensures back { (input : List ℕ) → IsSpelling (values.Map (txn.write t.now)) input → OnOk result (out.new.items ≡ out.old.items ++ input) }
     ensures err { OnErr result (out.new.items ≡ out.old.items) }
 {
-    append(alloc, t, out)
-}
-
-fn append(alloc: Global, t: &Txn, out: &mut Vec<u8>) -> Result<(), AllocError>
-    ensures bytes { OnOk result (out.new.items ≡ out.old.items ++ spelled (values.Map (txn.write t.now))) }
-    ensures err { OnErr result (out.new.items ≡ out.old.items) }
-{
-    let bytes = spelling(alloc, &Val::Map(txn_entries(alloc, t)?))?;
-    out.extend_from_slice(&bytes)
-}
-
-// The spelling of a value.
-fn spelling(alloc: Global, v: &Val) -> Result<Vec<u8>, AllocError>
-    ensures { IfOk result (λ bytes. bytes.items ≡ spelled v.now) }
-{
-    let mut bytes = Vec::new(alloc);
-    write(v, &mut bytes)?;
-    Ok(bytes)
-}
-
-/// The digest of a value's spelling.
-pub fn digest_val(alloc: Global, prefix: Prefix, v: &Val) -> Result<Hash, AllocError>
-    ensures { IfOk result (λ h. h ≡ digest_of prefix (spelled v.now)) }
-{
-    let bytes = spelling(alloc, v)?;
-    Ok(digest(prefix, bytes.as_slice()))
+    encode_record(t, out)
 }
 
 /// The id of a transaction: SHA-512/256 of `TX` and its spelling. Effects beside it do not count.
 pub fn txid(alloc: Global, t: &Txn) -> Result<Hash, AllocError>
     ensures { IfOk result (λ h. h ≡ txid_of t.now) }
 {
-    digest_val(alloc, Prefix::Tx, &Val::Map(txn_entries(alloc, t)?))
+    let mut bytes = Vec::new(alloc);
+    t.write(&mut bytes)?;
+    Ok(digest(Prefix::Tx, bytes.as_slice()))
 }
 
 /// The id that a transaction has outside of its group.
 fn lone_txid(alloc: Global, t: &Txn) -> Result<Hash, AllocError>
     ensures { IfOk result (λ h. h ≡ txid_of (ungrouped t.now)) }
 {
-    let entries = entries_in_group(alloc, t, &[0; 32])?;
-    digest_val(alloc, Prefix::Tx, &Val::Map(entries))
+    let mut bytes = Vec::new(alloc);
+    write_in_group(t, &[0; 32], &mut bytes)?;
+    Ok(digest(Prefix::Tx, bytes.as_slice()))
 }
 
 /// The id of a group with these members: SHA-512/256 of `TG` and the spelling of the map with the
@@ -77,5 +54,7 @@ pub fn group_id(alloc: Global, items: &[Item]) -> Result<Hash, AllocError>
     }
     let mut entries = Entries::new(alloc);
     put_list(alloc, &mut entries, "txlist", ids)?;
-    digest_val(alloc, Prefix::Group, &Val::Map(entries))
+    let mut bytes = Vec::new(alloc);
+    write(&Val::Map(entries), &mut bytes)?;
+    Ok(digest(Prefix::Group, bytes.as_slice()))
 }

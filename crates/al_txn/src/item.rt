@@ -1,16 +1,20 @@
 //! The records of a payset's entries.
-ghost use Rattle.std.specs.Prelude.{◌≡◌, IsTrue, IfOk};
-ghost use Rattle.al_record.specs.Columns.{Reads};
+ghost use Rattle.std.specs.Prelude.{◌≡◌, ◌++◌, ◌∷◌, [], suc, IsTrue, IfErr, IfOk, OnErr, OnOk};
+ghost use Rattle.al_msgpack.specs.declared.val.Val.TheVariants as values;
+ghost use Rattle.al_msgpack.specs.Spelled.{IsFront, spelled};
+ghost use Rattle.al_record.specs.Code.{count_some};
 ghost use Rattle.al_record.specs.Canonical.{canonical, are_canonical};
-ghost use Rattle.al_txn.specs.Item.{ReadsItem, most_effects};
+ghost use Rattle.al_txn.specs.Ids.{txid_of};
+ghost use Rattle.al_txn.specs.Item.{ReadsItem, effects_put, item, item_front, most_effects};
 
-use crate::record::{read_txn, txn_entries};
+use crate::record::read_txn;
 use crate::{Effect, Item};
-use al_base::Bytes;
-use al_msgpack::{Entries, Entry, Val, write};
+use al_base::{Bytes, Hash};
+use al_digest::{Prefix, digest};
+use al_msgpack::{Entry, Val, write_map_head, write_string};
 use al_record::{
-    Column, Fault, ReadError, Record, Shape, check_fields, field, find, list, list_of_all, map,
-    put_list, put_map, range, read_all, read_member,
+    Column, Fault, ReadError, Record, Shape, check_fields, find, list, map, range, read_all,
+    read_member, write_records,
 };
 use std::alloc::{AllocError, Global};
 
@@ -59,18 +63,42 @@ impl Record for Item {
         Ok(Item { txn, effects })
     }
 
-    fn entries(&self, alloc: Global) -> Result<Entries, AllocError> {
-        let mut out = Entries::new(alloc);
-        let effects = list_of_all(alloc, self.effects.as_slice())?;
-        put_list(alloc, &mut out, "fx", effects)?;
-        put_map(alloc, &mut out, "txn", txn_entries(alloc, &self.txn)?)?;
-        Ok(out)
-    }
-
     fn write(&self, out: &mut Vec<u8>) -> Result<(), AllocError> {
-        let alloc = *out.allocator();
-        write(&Val::Map(self.entries(alloc)?), out)
+        write_front(self.effects.as_slice(), out)?;
+        self.txn.write(out)
     }
+}
+
+/// How many fields the record of an entry with these effects has.
+fn count_fields(effects: &[Effect]) -> usize
+    ensures { result ≡ suc (count_some (effects_put effects.now ∷ [])) }
+{
+    if effects.is_empty() {
+        return 1;
+    }
+    2
+}
+
+/// Appends what stands before the transaction in the record of an entry.
+fn write_front(effects: &[Effect], out: &mut Vec<u8>) -> Result<(), AllocError>
+    ensures bytes { OnOk result (out.new.items ≡ out.old.items ++ item_front effects.now) }
+    ensures front { OnErr result (IsFront out.old.items out.new.items) }
+{
+    write_map_head(count_fields(effects), out)?;
+    write_records("fx", effects, out)?;
+    write_string(b"txn", out)
+}
+
+/// Appends the record of an entry, and gives the id of its transaction.
+pub fn write_with_id(member: &Item, out: &mut Vec<u8>) -> Result<Hash, AllocError>
+    ensures bytes { IfOk result (λ _. out.new.items ≡ out.old.items ++ spelled (values.Map (item.write member.now))) }
+    ensures id { IfOk result (λ id. id ≡ txid_of member.now.txn) }
+    ensures front { IfErr result (λ _. IsFront out.old.items out.new.items) }
+{
+    write_front(member.effects.as_slice(), out)?;
+    let start = out.len();
+    member.txn.write(out)?;
+    Ok(digest(Prefix::Tx, &out[start..]))
 }
 
 /// The entry of a payset whose record a value is, or the first fault of that record.

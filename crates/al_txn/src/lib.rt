@@ -28,8 +28,7 @@ pub use al_bodies::{
 };
 pub use chain::Chain;
 pub use form::{Ill, well_formed};
-pub use id::{digest_val, encode_txn, group_id, txid};
-pub use item::{ItemFault, decode_item};
+pub use id::{encode_txn, group_id, txid};
+pub use item::{ItemFault, decode_item, write_with_id};
 pub use laws::txn_laws;
-pub use record::{read_txn, txn_entries};
 pub use txn::{Item, Items, Txn};

@@ -1,19 +1,21 @@
 //! The record of a transaction.
-ghost use Rattle.std.specs.Prelude.{◌≡◌, IsTrue, IfOk};
+ghost use Rattle.std.specs.Prelude.{◌≡◌, ◌++◌, IsTrue, OnErr, OnOk};
+ghost use Rattle.al_msgpack.specs.declared.val.Val.TheVariants as values;
+ghost use Rattle.al_msgpack.specs.Spelled.{IsFront, spelled};
 ghost use Rattle.al_record.specs.Columns.{Reads};
 ghost use Rattle.al_record.specs.Canonical.{are_canonical};
 ghost use Rattle.al_txn.specs.Txn.{txn, with_group};
 
-use crate::call::{call_entries, read_call};
-use crate::configuration::{config_entries, read_config};
-use crate::freezing::{freeze_entries, read_freeze};
-use crate::payment::{pay_entries, read_pay};
-use crate::registration::{keyreg_entries, read_keyreg};
-use crate::transfer::{move_entries, read_move};
+use crate::call::{read_call, write_call};
+use crate::configuration::{read_config, write_config};
+use crate::freezing::{read_freeze, write_freeze};
+use crate::payment::{read_pay, write_pay};
+use crate::registration::{read_keyreg, write_keyreg};
+use crate::transfer::{read_move, write_move};
 use crate::{Body, Txn};
 use al_base::Hash;
-use al_msgpack::{Entries, Entry};
-use al_record::{ReadError, range, text_kind};
+use al_msgpack::Entry;
+use al_record::{InnerRecord, ReadError, Record, range, text_kind};
 use std::alloc::{AllocError, Global};
 
 /// The transaction of a record, or the first fault.
@@ -43,27 +45,37 @@ pub fn read_txn(alloc: Global, entries: &[Entry]) -> Result<Txn, ReadError>
     Err(range(alloc, "type"))
 }
 
-/// The record of a transaction.
-pub fn txn_entries(alloc: Global, t: &Txn) -> Result<Entries, AllocError>
-    ensures { IfOk result (λ es. es ≡ txn.write t.now) }
-{
-    entries_in_group(alloc, t, &t.group)
+impl Record for Txn {
+    ghost use Rattle.al_txn.specs.Txn.{txn};
+
+    ghost format = { txn };
+
+    fn read(alloc: Global, entries: &[Entry]) -> Result<Txn, ReadError> {
+        read_txn(alloc, entries)
+    }
+
+    fn write(&self, out: &mut Vec<u8>) -> Result<(), AllocError> {
+        write_in_group(self, &self.group, out)
+    }
 }
 
-/// The record of a transaction, with this group in place of its own.
-pub fn entries_in_group<'a>(
-    alloc: Global,
-    t: &'a Txn,
-    group: &'a Hash,
-) -> Result<Entries, AllocError>
-    ensures { IfOk result (λ es. es ≡ txn.write (with_group group.now t.now)) }
+impl InnerRecord for Txn {
+    fn is_empty(&self) -> bool {
+        false
+    }
+}
+
+/// Appends the record of a transaction, with this group in place of its own.
+pub fn write_in_group<'a>(t: &'a Txn, group: &'a Hash, out: &mut Vec<u8>) -> Result<(), AllocError>
+    ensures bytes { OnOk result (out.new.items ≡ out.old.items ++ spelled (values.Map (txn.write (with_group group.now t.now)))) }
+    ensures front { OnErr result (IsFront out.old.items out.new.items) }
 {
     match &t.body {
-        Body::Pay(p) => pay_entries(alloc, t, group, p),
-        Body::KeyReg(k) => keyreg_entries(alloc, t, group, k),
-        Body::Config(c) => config_entries(alloc, t, group, c),
-        Body::Move(m) => move_entries(alloc, t, group, m),
-        Body::Freeze(f) => freeze_entries(alloc, t, group, f),
-        Body::App(a) => call_entries(alloc, t, group, a),
+        Body::Pay(p) => write_pay(t, group, p, out),
+        Body::KeyReg(k) => write_keyreg(t, group, k, out),
+        Body::Config(c) => write_config(t, group, c, out),
+        Body::Move(m) => write_move(t, group, m, out),
+        Body::Freeze(f) => write_freeze(t, group, f, out),
+        Body::App(a) => write_call(t, group, a, out),
     }
 }

@@ -1,5 +1,7 @@
 //! Registrations of keys.
-ghost use Rattle.std.specs.Prelude.{◌≡◌, IsTrue, IfOk, codes, Ok};
+ghost use Rattle.std.specs.Prelude.{◌≡◌, ◌++◌, IsTrue, OnErr, OnOk, codes, Ok};
+ghost use Rattle.al_msgpack.specs.declared.val.Val.TheVariants as values;
+ghost use Rattle.al_msgpack.specs.Spelled.{IsFront, spelled};
 ghost use Rattle.al_record.specs.Columns.{Reads, entries};
 ghost use Rattle.al_record.specs.Kinds.{text_kind};
 ghost use Rattle.al_record.specs.Canonical.{are_canonical};
@@ -9,8 +11,8 @@ use crate::common::common;
 use crate::{Body, KeyReg, Txn};
 use al_base::Hash;
 use al_bodies::keyreg_of;
-use al_msgpack::{Entries, Entry};
-use al_record::{ANY_BYTES, Column, Content, HASH, ReadError, Shape, check, listed};
+use al_msgpack::Entry;
+use al_record::{ANY_BYTES, Column, Content, HASH, ReadError, Shape, check, write_listed};
 use std::alloc::{AllocError, Global};
 
 const KEYREG: [Column; 18] = [
@@ -45,17 +47,17 @@ pub fn read_keyreg(alloc: Global, entries: &[Entry]) -> Result<Txn, ReadError>
     Ok(common(alloc, entries, body)?)
 }
 
-/// The record of a transaction of this type, with this group.
-pub fn keyreg_entries<'a>(
-    alloc: Global,
+/// Appends the record of a transaction of this type, with this group.
+pub fn write_keyreg<'a>(
     t: &'a Txn,
     group: &'a Hash,
     k: &'a KeyReg,
-) -> Result<Entries, AllocError>
-    ensures { IfOk result (λ es. es ≡ entries keyreg_txn (with_group group.now t.now, k.now)) }
+    out: &mut Vec<u8>,
+) -> Result<(), AllocError>
+    ensures bytes { OnOk result (out.new.items ≡ out.old.items ++ spelled (values.Map (entries keyreg_txn (with_group group.now t.now, k.now)))) }
+    ensures front { OnErr result (IsFront out.old.items out.new.items) }
 {
-    listed(
-        alloc,
+    write_listed(
         &KEYREG,
         &[
             Content::Number(t.fee),
@@ -77,5 +79,6 @@ pub fn keyreg_entries<'a>(
             Content::Array(&k.vote),
             Content::Number(k.last),
         ],
+        out,
     )
 }
