@@ -2,11 +2,7 @@
 ghost use Rattle.std.specs.Prelude.{◌≡◌, IsTrue, IfOk};
 ghost use Rattle.al_msgpack.specs.Rising.{canonical, are_canonical};
 ghost use Rattle.al_record.specs.Columns.{Reads, ReadsOne};
-<<<<<<< HEAD:crates/al_genesis/src/genesis_record.rt
-ghost use Rattle.al_genesis.specs.Genesis.{row, genesis};
-=======
-ghost use Rattle.al_eval.specs.Genesis.{account, row, genesis};
->>>>>>> 7e1865242844cbbf17890399e316f0dd865592f9:crates/al_eval/src/genesis_record.rt
+ghost use Rattle.al_genesis.specs.Genesis.{account, row, genesis};
 
 use crate::genesis_fields::{FirstAccount, FirstRow, GenesisRecord, MOST_MONEY};
 use al_base::Address;
