@@ -22,7 +22,7 @@ are_others ns = list_all (λ n. not (is_kept n)) ns
 differs : (a b : List ℕ) → is_kept a ≡ false → is_kept b ≡ true → bytes_eq a b ≡ false
 differs a b p q = false_from_ne_true _ (λ t. let e : is_kept a ≡ is_kept b = ap is_kept (same_name a b t) in absurd cc)
 
-not_true : (b : Bool) → not b ≡ true → b ≡ false
+pub not_true : (b : Bool) → not b ≡ true → b ≡ false
 not_true true h = absurd cc
 not_true false h = refl
 
@@ -93,7 +93,7 @@ not_itself a h =
     let same : slice_cmp nat_cmp a a ≡ Equal = tied_itself nat_list_cmp_total a in
     absurd cc
 
-not_before : (a b : List ℕ) → IsLess a b → is_lt (slice_cmp nat_cmp b a) ≡ false
+pub not_before : (a b : List ℕ) → IsLess a b → is_lt (slice_cmp nat_cmp b a) ≡ false
 not_before a b h = false_from_ne_true _ (λ t. let back = rising (b ∷ a ∷ []) (and_from _ _ t refl) in not_itself a (nat_list_cmp_total.trans a b a h back.0.0))
 
 -- an entry below all goes first

@@ -4,3 +4,7 @@ pub mod Same
 pub mod SameEffect
 pub mod Straight
 pub mod Written
+pub mod Ranged
+pub mod RangedBodies
+pub mod MergedFields
+pub mod RangedEffects

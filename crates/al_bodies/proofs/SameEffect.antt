@@ -25,11 +25,11 @@ use Rattle.al_bodies.proofs.Written.{all_put, text_named, number_named, words_ap
 
 -- ---- inner transactions
 
-abbrev word : Inner → List ℕ
+abbrev pub word : Inner → List ℕ
 word (inners_of.Pay p) = codes "pay"
 word (inners_of.Move m) = codes "axfer"
 
-inner_named : (x : Inner) → text_kind (codes "type") (inner_written x) ≡ Ok (word x)
+pub inner_named : (x : Inner) → text_kind (codes "type") (inner_written x) ≡ Ok (word x)
 inner_named (inners_of.Pay p) = text_named (codes "type") (codes "pay") (entries inner_pay p) (all_put inner_pay p refl).1.1.1.0 refl
 inner_named (inners_of.Move m) = text_named (codes "type") (codes "axfer") (entries inner_axfer m) (all_put inner_axfer m refl).1.1.1.1.0 refl
 
@@ -57,7 +57,7 @@ inner_determined x y es r s = absurd (words_apart (word x) (word y) refl (sym (i
 
 -- ---- effects
 
-abbrev no : Effect → ℕ
+abbrev pub no : Effect → ℕ
 no (effects.Create a b c d e f) = 1
 no (effects.SetState s) = 2
 no effects.Remove = 3
@@ -68,7 +68,7 @@ no (effects.PutBox n v) = 7
 no (effects.RemoveBox n) = 8
 no (effects.Inner t) = 9
 
-effect_named : (x : Effect) → number_kind (codes "e") (effect_written x) ≡ Ok (no x)
+pub effect_named : (x : Effect) → number_kind (codes "e") (effect_written x) ≡ Ok (no x)
 effect_named (effects.Create a b c d e f) = number_named (codes "e") 1 (entries create (record { uints = a; slices = b; local_uints = c; local_slices = d; pages = e; state = f })) (all_put create (record { uints = a; slices = b; local_uints = c; local_slices = d; pages = e; state = f }) refl).0 refl
 effect_named (effects.SetState s) = number_named (codes "e") 2 (entries (with_state 2) s) (all_put (with_state 2) s refl).0 refl
 effect_named effects.Remove = number_named (codes "e") 3 (entries (bare 3) tt) (all_put (bare 3) tt refl).0 refl

@@ -1,3 +1,4 @@
 pub mod Kept
 pub mod Bodies
 pub mod Effect
+pub mod Ranges

@@ -14,9 +14,11 @@ mod effect;
 mod effect_record;
 mod inner;
 mod params;
+mod ranges;
 
 pub use body::{AppCall, AssetMove, Body, Config, Freeze, KeyReg, Pay};
 pub use body_record::{freeze_of, keyreg_of, move_of, pay_of};
 pub use call_fields::{is_kept, kept, write_merged};
 pub use effect::{Effect, Effects, Inner};
 pub use params::{count_params, read_params, write_params};
+pub use ranges::range_laws;

@@ -150,7 +150,7 @@ put_canonical depth (inner name fault get) x p = held (IsCanonical depth) _ _ p
 put_canonical depth (inners name limit fault get) x p = held (IsCanonical depth) _ _ p
 
 -- the names stand above the key before
-abbrev BelowAll : Option (List ℕ) → List (List ℕ) → Type 0
+abbrev pub BelowAll : Option (List ℕ) → List (List ℕ) → Type 0
 BelowAll None ns = Unit {0}
 BelowAll (Some k) ns = IsBelow k ns
 
@@ -166,7 +166,7 @@ entry_canonical : (P : Val → Type 0) (before : Option (List ℕ)) (name : List
 entry_canonical P before name None rest up short h skipped rest_are = skipped
 entry_canonical P before name (Some v) rest up short h skipped rest_are = (up, short.0, short.1, h, rest_are)
 
-entries_are : {X : Type 0} (depth : ℕ) (before : Option (List ℕ)) (fs : List (FieldOf X)) (x : X) → Rising (names_of fs) → BelowAll before (names_of fs) → AllByRecursion IsShort (names_of fs) → AllSpellable depth fs x → AreEntries (IsCanonical depth) before (entries fs x)
+pub entries_are : {X : Type 0} (depth : ℕ) (before : Option (List ℕ)) (fs : List (FieldOf X)) (x : X) → Rising (names_of fs) → BelowAll before (names_of fs) → AllByRecursion IsShort (names_of fs) → AllSpellable depth fs x → AreEntries (IsCanonical depth) before (entries fs x)
 entries_are depth before [] x r b s p = tt
 entries_are depth before (f ∷ fs) x r b s p =
     entry_canonical (IsCanonical depth) before (rule f).name (put f x) (entries fs x) (first_above before (rule f).name (names_of fs) b) s.0 (put_canonical depth f x p.0)
@@ -177,7 +177,7 @@ one_more : (name : List ℕ) (o : Option Val) (rest : List Entry) (n : ℕ) → 
 one_more name None rest n le = omega arith
 one_more name (Some v) rest n le = omega arith
 
-count_bound : {X : Type 0} (fs : List (FieldOf X)) (x : X) → length (entries fs x) ≤ length fs
+pub count_bound : {X : Type 0} (fs : List (FieldOf X)) (x : X) → length (entries fs x) ≤ length fs
 count_bound [] x = omega arith
 count_bound (f ∷ fs) x = one_more (rule f).name (put f x) (entries fs x) (length fs) (count_bound fs x)
 
