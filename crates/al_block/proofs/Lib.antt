@@ -1,3 +1,4 @@
 pub mod Meaning
 pub mod Same
 pub mod Straight
+pub mod Ranged

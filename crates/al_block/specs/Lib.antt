@@ -1,3 +1,4 @@
 pub mod Header
 pub mod Block
 pub mod Hashes
+pub mod Ranges

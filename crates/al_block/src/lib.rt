@@ -13,6 +13,7 @@ mod header;
 mod header_record;
 mod laws;
 mod payset;
+mod ranges;
 
 pub use block::Block;
 pub use decoding::{BlockFault, decode_block, encode_block};
@@ -21,3 +22,4 @@ pub use header::{Field, Header};
 pub use header_record::read_header;
 pub use laws::block_laws;
 pub use payset::{PaysetHashes, payset_hashes};
+pub use ranges::{block_range_laws, header_range_laws};

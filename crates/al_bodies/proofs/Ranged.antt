@@ -56,7 +56,7 @@ list_again : (vs : List Val) → list_of (list_put vs) ≡ vs
 list_again [] = refl
 list_again (v ∷ vs) = ap list_in (views.outs-List (v ∷ vs))
 
-map_again : (es : List Entry) → map_of (map_put es) ≡ es
+pub map_again : (es : List Entry) → map_of (map_put es) ≡ es
 map_again [] = refl
 map_again (e ∷ es) = ap map_in (views.outs-Map (e ∷ es))
 

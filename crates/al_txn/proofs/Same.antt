@@ -54,16 +54,16 @@ word (bodies.Freeze f) = codes "afrz"
 word (bodies.App a) = codes "appl"
 
 -- the kept fields and the others of a written call
-abbrev flat : Txn → AppCall → List Entry
+abbrev pub flat : Txn → AppCall → List Entry
 flat t a = entries appl_txn (t, a)
 
-call_others : (t : Txn) (a : AppCall) → others (merged a.rest (flat t a)) ≡ flat t a
+pub call_others : (t : Txn) (a : AppCall) → others (merged a.rest (flat t a)) ≡ flat t a
 call_others t a = others_merged a.rest (flat t a) a.kept (entries_others appl_txn (t, a) refl)
 
-call_kept : (t : Txn) (a : AppCall) → kept (merged a.rest (flat t a)) ≡ a.rest
+pub call_kept : (t : Txn) (a : AppCall) → kept (merged a.rest (flat t a)) ≡ a.rest
 call_kept t a = kept_merged a.rest (flat t a) a.kept (entries_others appl_txn (t, a) refl)
 
-call_named : (t : Txn) (a : AppCall) → value_at (codes "type") (merged a.rest (flat t a)) ≡ Some (values.Str (codes "appl"))
+pub call_named : (t : Txn) (a : AppCall) → value_at (codes "type") (merged a.rest (flat t a)) ≡ Some (values.Str (codes "appl"))
 call_named t a = sym (others_at (codes "type") (merged a.rest (flat t a)) refl) ∙ ap (value_at (codes "type")) (call_others t a) ∙ (all_put appl_txn (t, a) refl).1.1.1.1.1.1.1.1.1.1.1.0
 
 pub named : (t : Txn) (b : Body) → value_at (codes "type") (written t b) ≡ Some (values.Str (word b))
@@ -74,7 +74,7 @@ named t (bodies.Move m) = (all_put axfer_txn (t, m) refl).1.1.1.1.1.1.1.1.1.1.1.
 named t (bodies.Freeze f) = (all_put afrz_txn (t, f) refl).1.1.1.1.1.1.1.1.1.1.1.1.1.0
 named t (bodies.App a) = call_named t a
 
-some_word : (b : Body) → is_empty (word b) ≡ false
+pub some_word : (b : Body) → is_empty (word b) ≡ false
 some_word (bodies.Pay p) = refl
 some_word (bodies.KeyReg k) = refl
 some_word (bodies.Config c) = refl

@@ -3,3 +3,4 @@ pub mod Item
 pub mod Form
 pub mod Ids
 pub mod Laws
+pub mod Ranges
