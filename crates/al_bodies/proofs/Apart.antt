@@ -88,6 +88,27 @@ others_canonical es h =
     let p = and_parts _ _ h in
     and_from _ _ (rises_from _ (others_rise es (rising _ p.0))) (vals_others es p.1)
 
+kept_rise : (es : List Entry) → Rising (keys es) → Rising (keys (kept es))
+kept_rise [] h = tt
+kept_rise (e ∷ es) h = elim (cases_Bool (is_kept e.key)) [
+  | inl t ↦ rw t (kept_above e.key es h.0, kept_rise es h.1)
+  | inr t ↦ rw t (kept_rise es h.1)
+]
+
+vals_kept : (es : List Entry) → list_all (λ e. canonical e.val) es ≡ true → list_all (λ e. canonical e.val) (kept es) ≡ true
+vals_kept [] h = refl
+vals_kept (e ∷ es) h =
+    let p = and_parts _ _ h in
+    elim (cases_Bool (is_kept e.key)) [
+      | inl t ↦ rw t (and_from _ _ p.0 (vals_kept es p.1))
+      | inr t ↦ rw t (vals_kept es p.1)
+    ]
+
+pub kept_canonical : (es : List Entry) → are_canonical es ≡ true → are_canonical (kept es) ≡ true
+kept_canonical es h =
+    let p = and_parts _ _ h in
+    and_from _ _ (rises_from _ (kept_rise es (rising _ p.0))) (vals_kept es p.1)
+
 not_itself : (a : List ℕ) → IsLess a a → ⊥
 not_itself a h =
     let same : slice_cmp nat_cmp a a ≡ Equal = tied_itself nat_list_cmp_total a in

@@ -11,7 +11,7 @@ use Rattle.al_record.proofs.Engine.{first_none, names}
 use Rattle.al_record.proofs.Laws.{record_shows}
 use Rattle.al_record.proofs.Tables.{all_agree}
 use Rattle.al_record.proofs.Same.{Determined}
-use Rattle.al_msgpack.specs.Rising.{rises}
+use Rattle.al_msgpack.specs.Rising.{rises, are_canonical}
 use Rattle.al_bodies.specs.declared.body.Pay.{Pay}
 use Rattle.al_bodies.specs.declared.body.KeyReg.{KeyReg}
 use Rattle.al_bodies.specs.declared.body.Config.{Config}
@@ -95,17 +95,27 @@ move_same m n a = let same : move_whole m ≡ move_whole n = cc in same
 pub config_same : (c d : Config) (es : List Entry) → c.asset ≡ d.asset → IsRecord asset_params c.params es → IsRecord asset_params d.params es → c ≡ d
 config_same c d es a p q = ap₂ (λ (n : ℕ) (x : AssetParams). record { asset = n; params = x }) a (params_determined c.params d.params es p q)
 
-abbrev call : (app : ℕ) (rest : List Entry) → are_kept rest ≡ true → AppCall
-call app rest k = record { app = app; rest = rest; kept = k }
+-- the keys of kept fields rise at each level
+abbrev IsHeld : List Entry → Type 0
+IsHeld rest = (are_kept rest ≡ true) × (are_canonical rest ≡ true)
+
+abbrev call : (app : ℕ) (rest : List Entry) → IsHeld rest → AppCall
+call app rest h = record { app = app; rest = rest; kept = h.0; rising = h.1 }
 
 one_proof : (rest : List Entry) → IsProp (are_kept rest ≡ true)
 one_proof rest = hlevel props
 
-proofs : (app : ℕ) (rest : List Entry) (k l : are_kept rest ≡ true) → call app rest k ≡ call app rest l
-proofs app rest k l = let e : k ≡ l = one_proof rest k l in cc
+one_rising : (rest : List Entry) → IsProp (are_canonical rest ≡ true)
+one_rising rest = hlevel props
+
+proofs : (app : ℕ) (rest : List Entry) (h i : IsHeld rest) → call app rest h ≡ call app rest i
+proofs app rest h i =
+    let e : h.0 ≡ i.0 = one_proof rest h.0 i.0 in
+    let f : h.1 ≡ i.1 = one_rising rest h.1 i.1 in
+    cc
 
 pub call_same : (x y : AppCall) → x.app ≡ y.app → x.rest ≡ y.rest → x ≡ y
 call_same x y p q =
-    subst (λ (n : ℕ). (k : are_kept y.rest ≡ true) → x ≡ call n y.rest k) p
-    (subst (λ (es : List Entry). (k : are_kept es ≡ true) → x ≡ call x.app es k) q
-    (λ k. proofs x.app x.rest x.kept k)) y.kept
+    subst (λ (n : ℕ). (h : IsHeld y.rest) → x ≡ call n y.rest h) p
+    (subst (λ (es : List Entry). (h : IsHeld es) → x ≡ call x.app es h) q
+    (λ h. proofs x.app x.rest (x.kept, x.rising) h)) (y.kept, y.rising)

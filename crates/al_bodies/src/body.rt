@@ -1,5 +1,6 @@
 //! What a transaction does, by its type.
 ghost use Rattle.std.specs.Prelude.{IsTrue};
+ghost use Rattle.al_msgpack.specs.Rising.{are_canonical};
 ghost use Rattle.al_bodies.specs.Kept.{are_kept};
 
 use al_base::{Address, AssetParams, Hash};
@@ -75,9 +76,10 @@ pub struct Freeze {
 pub struct AppCall {
     /// The application; 0 to create one.
     pub app: u64,
-    /// The other application fields, as they stand.
+    /// The other application fields, as they stand: with keys that rise at each level.
     pub rest: Entries,
     ghost kept: { IsTrue (are_kept rest) },
+    ghost rising: { IsTrue (are_canonical rest) },
 }
 
 /// What a transaction does.
