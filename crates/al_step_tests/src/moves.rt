@@ -326,31 +326,59 @@ fn rekeys(rt: HostRuntime) -> Result<(), Fail> {
     Ok(())
 }
 
-// A row is that of the view until it is set, with all of its parts.
-#[test]
-fn rows(rt: HostRuntime) -> Result<(), Fail> {
-    let alloc = rt.alloc();
+// Whether a work shows this row under a key.
+fn shows(work: &mut Work<MapView>, key: &Key, wanted: Option<Row>) -> bool {
+    match work.row(key) {
+        Ok(row) => row == wanted,
+        Err(_) => false,
+    }
+}
+
+// Whether the payer's asset becomes one that it holds.
+fn set_held(alloc: Global, work: &mut Work<MapView>) -> bool {
+    match created_and_held(alloc) {
+        Ok(held) => work
+            .set(&Key::Resource(PAYER, 7), Some(Row::Asset(held)))
+            .is_ok(),
+        Err(_) => false,
+    }
+}
+
+// A work over the payer's asset.
+fn asset_work(alloc: Global) -> Result<Work<MapView>, AllocError> {
     let special = Special {
         sink: SINK,
         pool: POOL,
     };
+    Ok(Work::new(alloc, one_asset(alloc)?, special, 0, 1))
+}
+
+// A row is that of the view until it is set, with all of its parts.
+#[test]
+fn rows(rt: HostRuntime) -> Result<(), Fail> {
+    let alloc = rt.alloc();
     let key = Key::Resource(PAYER, 7);
-    let mut work = Work::new(alloc, one_asset(alloc)?, special, 0, 1);
-    let row = work.row(&key).ok().ok_or("row")?;
-    assert!(rt; row == Some(Row::Asset(created(alloc)?)));
-    let held = created_and_held(alloc)?;
-    work.set(&key, Some(Row::Asset(held))).ok().ok_or("set")?;
-    let row = work.row(&key).ok().ok_or("row")?;
-    assert!(rt; row == Some(Row::Asset(created_and_held(alloc)?)));
-    work.set(&key, None).ok().ok_or("set")?;
-    assert!(rt; work.row(&key).ok() == Some(None));
-    assert!(rt; work.row(&Key::Account(PAYER)).ok() == Some(None));
-    // A row that says nothing is none.
+    let mut work = asset_work(alloc)?;
+    let made = Row::Asset(created(alloc)?);
+    assert!(rt; shows(&mut work, &key, Some(made)));
+    assert!(rt; set_held(alloc, &mut work));
+    let held = Row::Asset(created_and_held(alloc)?);
+    assert!(rt; shows(&mut work, &key, Some(held)));
+    Ok(())
+}
+
+// A row that is taken away is none, and so is one that says nothing.
+#[test]
+fn no_rows(rt: HostRuntime) -> Result<(), Fail> {
+    let alloc = rt.alloc();
+    let key = Key::Resource(PAYER, 7);
+    let mut work = asset_work(alloc)?;
+    assert!(rt; set_held(alloc, &mut work));
+    assert!(rt; work.set(&key, None).is_ok());
+    assert!(rt; shows(&mut work, &key, None));
     let zero = Row::Account(AccountRow::none());
-    work.set(&Key::Account(PAYER), Some(zero))
-        .ok()
-        .ok_or("set")?;
-    assert!(rt; work.row(&Key::Account(PAYER)).ok() == Some(None));
+    assert!(rt; work.set(&Key::Account(PAYER), Some(zero)).is_ok());
+    assert!(rt; shows(&mut work, &Key::Account(PAYER), None));
     Ok(())
 }
 
