@@ -9,11 +9,14 @@ use al_record::{Record, write_list_of};
 use al_txn::Item;
 use std::alloc::{AllocError, Global};
 
+/// Room for the spelling of a header without expired accounts.
+const USUAL_BYTES: usize = 512;
+
 /// The hash of a block: SHA-512/256 of `BH` and its header's spelling.
 pub fn header_hash(alloc: Global, h: &Header) -> Result<Hash, AllocError>
     ensures { IfOk result (λ hash. hash ≡ header_hash_of h.now) }
 {
-    let mut bytes = Vec::new(alloc);
+    let mut bytes = Vec::with_capacity(alloc, USUAL_BYTES)?;
     h.write(&mut bytes)?;
     Ok(digest(Prefix::Header, bytes.as_slice()))
 }

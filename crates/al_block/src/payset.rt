@@ -13,6 +13,9 @@ use al_msgpack::write_list_head;
 use al_txn::{Item, write_with_id};
 use std::alloc::{AllocError, Global};
 
+/// Room for the spelling of an entry with a payment.
+const USUAL_BYTES: usize = 288;
+
 /// The digest of a block's payset and the ids of its transactions.
 #[derive(Debug, Drop)]
 pub struct PaysetHashes {
@@ -27,7 +30,8 @@ pub fn payset_hashes(alloc: Global, b: &Block) -> Result<PaysetHashes, AllocErro
     ensures payset { IfOk result (λ h. h.payset ≡ payset_hash_of b.now.items) }
     ensures ids { IfOk result (λ h. h.ids.items ≡ map (λ i. txid_of i.txn) b.now.items) }
 {
-    let mut bytes = Vec::new(alloc);
+    let room = b.items.len().saturating_mul(USUAL_BYTES);
+    let mut bytes = Vec::with_capacity(alloc, room)?;
     write_list_head(b.items.len(), &mut bytes)?;
     let ids = write_items(alloc, b.items.as_slice(), &mut bytes)?;
     let payset = digest(Prefix::Payset, bytes.as_slice());
@@ -39,7 +43,7 @@ fn write_items(alloc: Global, items: &[Item], out: &mut Vec<u8>) -> Result<Vec<H
     ensures bytes { IfOk result (λ _. out.new.items ≡ out.old.items ++ all_spelled (map (λ es. values.Map es) (map item.write items.now))) }
     ensures ids { IfOk result (λ ids. ids.items ≡ map (λ i. txid_of i.txn) items.now) }
 {
-    let mut ids = Vec::new(alloc);
+    let mut ids = Vec::with_capacity(alloc, items.len())?;
     for member in items {
         ids.push(write_with_id(member, out)?)?;
     }

@@ -1,5 +1,5 @@
 //! The decoder.
-ghost use Rattle.std.specs.Prelude.{◌≡◌, ◌<◌, ◌^◌, None, Result, IfOk, IsTrue, length};
+ghost use Rattle.std.specs.Prelude.{◌≡◌, ◌<◌, ◌^◌, [], None, Result, IfOk, IsTrue, length};
 ghost use Rattle.al_msgpack.specs.Reading.{Gives, Answers, value_at, all_of, entries_of, verdict};
 ghost use Rattle.al_msgpack.specs.Places.{Means, MeansUnless};
 ghost use Rattle.al_msgpack.specs.Rising.{canonical};
@@ -12,10 +12,21 @@ use crate::key::{key, size_of, string};
 use crate::val::{Entry, Val};
 use al_base::Bytes;
 use sqlite_items::Items;
-use std::alloc::Global;
+use std::alloc::{AllocError, Global};
 
 /// How deep containers nest.
 pub(crate) const DEPTH: u8 = 16;
+
+/// The most members that room is made for before they are read.
+const FIRST_ROOM: u64 = 16;
+
+/// An empty list with room for the first of so many members.
+fn with_room<T>(alloc: Global, count: u64) -> Result<Items<T>, AllocError>
+    ensures { IfOk result (λ items. items ≡ []) }
+{
+    let items = Vec::with_capacity(alloc, count.min(FIRST_ROOM) as usize)?;
+    Ok(Items::from_vec(items))
+}
 
 /// A value, and the bytes after it. Containers nest at most `depth` deep.
 #[tactic(auto, unfolding(crate::specs::Reading::value_at))]
@@ -69,7 +80,7 @@ fn values(
 ) -> Result<(Items<Val>, &[u8]), ReadError>
     ensures { Gives (λ x. (x.0, x.1.now)) result (all_of depth count bytes.now) }
 {
-    let mut items = Items::new(alloc);
+    let mut items = with_room(alloc, count)?;
     let mut rest = bytes;
     for _ in 0..count {
         let (item, after) = value(alloc, rest, depth)?;
@@ -89,7 +100,7 @@ fn entries(
 ) -> Result<(Items<Entry>, &[u8]), ReadError>
     ensures { Gives (λ x. (x.0, x.1.now)) result (entries_of depth None count bytes.now) }
 {
-    let mut items = Items::new(alloc);
+    let mut items = with_room(alloc, count)?;
     let mut rest = bytes;
     let mut before = None;
     for _ in 0..count {

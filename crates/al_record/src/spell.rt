@@ -5,7 +5,7 @@ ghost use Rattle.al_msgpack.specs.Spelled.{IsFront, spelled, all_spelled, entrie
 ghost use Rattle.al_record.specs.Columns.{array_put, with_entry, map_put};
 ghost use Rattle.al_record.specs.Code.{count_some, listed, put_of, table_of, val_of};
 
-use crate::shape::{Column, is_zero};
+use crate::shape::Column;
 use crate::write::Content;
 use al_base::Address;
 use al_msgpack::{
@@ -54,7 +54,7 @@ impl<'a> Content<'a> {
 fn is_zero_array<const N: usize>(b: &[u8; N]) -> bool
     ensures { result ≡ is_none (array_put N b.now) }
 {
-    is_zero(b.as_slice())
+    *b == [0; N]
 }
 
 /// Appends a list of addresses.

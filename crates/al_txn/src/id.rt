@@ -14,6 +14,9 @@ use al_msgpack::{Entries, Val, Vals, write};
 use al_record::{Record, encode_record, put_list};
 use std::alloc::{AllocError, Global};
 
+/// Room for the spelling of a payment.
+const USUAL_BYTES: usize = 288;
+
 /// Appends the spelling of a transaction's record: the very bytes that it was read from. Nothing is
 /// appended where memory is short.
 pub fn encode_txn(t: &Txn, out: &mut Vec<u8>) -> Result<(), AllocError>
@@ -28,7 +31,7 @@ pub fn encode_txn(t: &Txn, out: &mut Vec<u8>) -> Result<(), AllocError>
 pub fn txid(alloc: Global, t: &Txn) -> Result<Hash, AllocError>
     ensures { IfOk result (λ h. h ≡ txid_of t.now) }
 {
-    let mut bytes = Vec::new(alloc);
+    let mut bytes = Vec::with_capacity(alloc, USUAL_BYTES)?;
     t.write(&mut bytes)?;
     Ok(digest(Prefix::Tx, bytes.as_slice()))
 }
@@ -37,7 +40,7 @@ pub fn txid(alloc: Global, t: &Txn) -> Result<Hash, AllocError>
 fn lone_txid(alloc: Global, t: &Txn) -> Result<Hash, AllocError>
     ensures { IfOk result (λ h. h ≡ txid_of (ungrouped t.now)) }
 {
-    let mut bytes = Vec::new(alloc);
+    let mut bytes = Vec::with_capacity(alloc, USUAL_BYTES)?;
     write_in_group(t, &[0; 32], &mut bytes)?;
     Ok(digest(Prefix::Tx, bytes.as_slice()))
 }
