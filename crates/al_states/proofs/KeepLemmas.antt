@@ -205,17 +205,6 @@ evaluates s b (Err e) h entries is_of ordered kept = h
 
 -- ---- the newest rows
 
--- two lists with one more at their ends are the same only where all is
-pub ends : {A : Type 0} (xs ys : List A) (x y : A) → xs ++ x ∷ [] ≡ ys ++ y ∷ [] → (xs ≡ ys) × (x ≡ y)
-ends [] [] x y e = (refl, cc)
-ends [] (b ∷ ys) x y e = absurd (let long = ap length e in omega (arith, long, length-append ys (y ∷ [])))
-ends (a ∷ xs) [] x y e = absurd (let long = ap length e in omega (arith, long, length-append xs (x ∷ [])))
-ends (a ∷ xs) (b ∷ ys) x y e =
-    let first : a ≡ b = cc in
-    let rest : xs ++ x ∷ [] ≡ ys ++ y ∷ [] = cc in
-    let both = ends xs ys x y rest in
-    (ap₂ (λ z zs. z ∷ zs) first both.0, both.1)
-
 last_in : (ds : List RoundDelta) (d : RoundDelta) → Some d ≡ last_of ds → AllByRecursion IsKeptDelta ds → IsKeptDelta d
 last_in [] d e h = absurd (let x : ◌≡◌ {A = Option RoundDelta} (Some d) None = e in cc)
 last_in (x ∷ []) d e h = subst IsKeptDelta (let y : ◌≡◌ {A = Option RoundDelta} (Some d) (Some x) = e in let z : x ≡ d = cc in z) h.0
@@ -224,23 +213,6 @@ last_in (x ∷ y ∷ ds) d e h = last_in (y ∷ ds) d e h.1
 -- the last changes may be kept
 pub last_kept : (ds : List RoundDelta) (d : RoundDelta) → Some d ≡ last_of ds → All IsKeptDelta ds → IsKeptDelta d
 last_kept ds d e h = last_in ds d e (recursion_from_All IsKeptDelta ds h)
-
--- to put the last changes again changes nothing of what they come to
-pub kept_again : (chain : Chain) (first : Header) (base newest newer : StoredMap) (deltas : Queue) (kept : List KeptBlock) (header : Header) (hash : List ℕ) (totals : Totals) (tail : List Entry)
-    → IsKeeping chain first base newest deltas kept header hash totals tail → caught_up (last_of deltas.deltas) newer ≡ caught_up (last_of deltas.deltas) newest → IsKeeping chain first base newer deltas kept header hash totals tail
-kept_again chain first base newest newer deltas kept header hash totals tail k again = record {
-  past = k.past;
-  follows = k.follows;
-  begins = k.begins;
-  level = k.level;
-  changes = k.changes;
-  newest_is = again ∙ k.newest_is;
-  hash_is = k.hash_is;
-  tail_is = k.tail_is;
-  sound = k.sound;
-  totals_are = k.totals_are;
-  spelled = k.spelled;
-}
 
 -- ---- one block more
 

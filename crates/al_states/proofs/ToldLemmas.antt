@@ -39,7 +39,7 @@ use Rattle.al_states.specs.declared.looking.LookRefusal.TheVariants as looks
 use Rattle.al_states.specs.declared.accepting.Accepted.{Accepted}
 use Rattle.al_states.specs.declared.accepting.AcceptRefusal.{AcceptRefusal}
 use Rattle.al_states.specs.declared.accepting.AcceptRefusal.TheVariants as refusals
-use Rattle.al_states.specs.Accepting.{Accepts, IsNext, IsRefused, accept_answer, eval_answer, outer_fault, outer_refusal, refusal_answer}
+use Rattle.al_states.specs.Accepting.{Accepts, IsBroken, IsNext, IsRefused, accept_answer, eval_answer, outer_fault, outer_refusal, refusal_answer}
 use Rattle.al_states.specs.Built.{is_built}
 use Rattle.al_states.specs.Held.{Held}
 use Rattle.al_states.specs.Looking.{Looks, look_answer, row_answer}
@@ -123,13 +123,13 @@ next_posts : (o s : State) (blocks : List Block) (body : List ℕ) (b : Block) (
 next_posts o s blocks body b continues a is next due = inl (inr (b, is, inr (inr (next.round, (s, next.replayed, due)))))
 
 -- the refusal by the step
-eval_posts : (o s : State) (blocks : List Block) (body : List ℕ) (b : Block) (e : EvalRefusal Never) → IsBlock body b → IsNext o blocks b true s → is_built b ≡ true → IsStepRefusal s b (refusal_of e)
+eval_posts : (o s : State) (blocks : List Block) (body : List ℕ) (b : Block) (e : EvalRefusal Never) → IsBlock body b → IsNext o blocks b true s → is_built b ≡ true → IsBroken s b (refusal_of e)
     → Posts o blocks body (eval_answer (length blocks) e) ⊎ (eval_answer (length blocks) e ≡ memory_answer)
 eval_posts o s blocks body b (evals.Broken place rule) is next built due = next_posts o s blocks body b true _ is next (judged_step (length blocks) s b next.prev built ∙ ap (refused (length blocks)) due.0)
 eval_posts o s blocks body b (evals.Header field) is next built due = next_posts o s blocks body b true _ is next (judged_step (length blocks) s b next.prev built ∙ ap (refused (length blocks)) due.0)
 eval_posts o s blocks body b (evals.PoolShort pool owed) is next built due = next_posts o s blocks body b true _ is next (judged_step (length blocks) s b next.prev built ∙ ap (refused (length blocks)) due.0)
-eval_posts o s blocks body b (evals.View never) is next built due = inr refl
-eval_posts o s blocks body b evals.Memory is next built due = inr refl
+eval_posts o s blocks body b (evals.View never) is next built due = absurd due
+eval_posts o s blocks body b evals.Memory is next built due = absurd due
 
 outside : (blocks : List Block) (next front : ℕ) → next ≡ suc (length blocks) → front ≡ length blocks → answers.Refused 409 errors.WrongRound (record nothing { front = Some front; next = Some next }) ≡ wrong_round (length blocks)
 outside blocks next front n f = ap₂ (λ x y. answers.Refused 409 errors.WrongRound (record nothing { front = Some x; next = Some y })) f n
@@ -183,33 +183,6 @@ accept_answered before after body (Ok a) t (inr (b, is, round, grown, at)) told 
 accept_answered before after body (Err r) t (same, why) told =
     subst (λ (h : Held). IsAnswered before h asks.Post body t) (sym same) (answered_same before asks.Post body (refusal_answer r) t (told ∙ ap (λ (h : Held). record { front = length h.blocks; answer = refusal_answer r }) same) (refused_posts before.origin before.blocks body r why))
 
-eval_sound : (front : ℕ) (e : EvalRefusal Never) → IsSound (eval_answer front e)
-eval_sound front (evals.Broken place rule) = tt
-eval_sound front (evals.Header field) = tt
-eval_sound front (evals.PoolShort pool owed) = tt
-eval_sound front (evals.View never) = tt
-eval_sound front evals.Memory = tt
-
-fault_sound : (f : BlockFault) → IsSound (undecodable f)
-fault_sound (faults.Decode (places.Truncated at)) = tt
-fault_sound (faults.Decode (places.Malformed at)) = tt
-fault_sound (faults.Decode (places.Trailing at)) = tt
-fault_sound (faults.Decode places.Memory) = tt
-fault_sound (faults.Field name) = tt
-fault_sound (faults.Range name) = tt
-fault_sound faults.Memory = tt
-
--- it shows no account
-pub accept_sound : (r : Result Accepted AcceptRefusal) → IsSound (accept_answer r)
-accept_sound (Ok a) = tt
-accept_sound (Err (refusals.Undecodable f)) = fault_sound f
-accept_sound (Err (refusals.WrongRound next front)) = tt
-accept_sound (Err (refusals.Fork hash front)) = tt
-accept_sound (Err (refusals.WrongPrev hash front)) = tt
-accept_sound (Err (refusals.Eval e front)) = eval_sound front e
-accept_sound (Err refusals.NotBuilt) = tt
-accept_sound (Err refusals.Memory) = tt
-
 -- ---- refusals
 
 -- the block is the next one, and continues the last one or does not
@@ -236,5 +209,5 @@ pub step_refused : (o s : State) (blocks : List Block) (body : List ℕ) (b : Bl
 step_refused o s blocks body b front (evals.Broken place rule) is next built due f = (b, is, (s, next, built, due, f))
 step_refused o s blocks body b front (evals.Header field) is next built due f = (b, is, (s, next, built, due, f))
 step_refused o s blocks body b front (evals.PoolShort pool owed) is next built due f = (b, is, (s, next, built, due, f))
-step_refused o s blocks body b front (evals.View never) is next built due f = (b, is, (s, next, built, due, f))
+step_refused o s blocks body b front (evals.View never) is next built due f = absurd never
 step_refused o s blocks body b front evals.Memory is next built due f = tt

@@ -13,9 +13,9 @@ use Rattle.al_rows.specs.Rows.{same_bytes}
 use Rattle.al_rows.specs.declared.view.Never.{Never}
 use Rattle.al_eval.specs.declared.before.EvalRefusal.{EvalRefusal}
 use Rattle.al_eval.specs.declared.before.EvalRefusal.TheVariants as evals
-use Rattle.al_eval.specs.Refusals.{refusal_of}
-use Rattle.al_eval.specs.Sound.{IsStepRefusal}
-use Rattle.al_eval.specs.State.{State, replay}
+use Rattle.al_eval.specs.Refusals.{Verdict, refused, refusal_of}
+use Rattle.al_eval.specs.Sound.{MayCome}
+use Rattle.al_eval.specs.State.{State, replay, step}
 use Rattle.al_http.specs.declared.answer.Answer.{Answer}
 use Rattle.al_http.specs.declared.answer.Answer.TheVariants as answers
 use Rattle.al_http.specs.declared.answer.ErrorName.TheVariants as errors
@@ -37,12 +37,17 @@ pub record IsNext (o : State) (blocks : List Block) (b : Block) (continues : Boo
 abbrev pub IsFork : List Block → List ℕ → ℕ → List ℕ → Type 0
 IsFork blocks body round hash = (kept : Block) × IsBlockOf blocks round kept × (IsBlock body kept → ⊥) × (hash ≡ header_hash_of kept.header)
 
+-- the step refuses the block, by what a sound state can come to
+abbrev pub IsBroken : State → Block → Verdict → Type 0
+IsBroken s b (refused r) = (step s b ≡ Err r) × MayCome r
+IsBroken s b v = ⊥
+
 -- why a block is refused
 abbrev pub Refuses : State → List Block → List ℕ → Block → AcceptRefusal → Type 0
 Refuses o blocks body b (refusals.WrongRound next front) = ((b.header.round ≡ 0) ⊎ (suc (length blocks) < b.header.round)) × (next ≡ suc (length blocks)) × (front ≡ length blocks)
 Refuses o blocks body b (refusals.Fork hash front) = IsFork blocks body b.header.round hash × (front ≡ length blocks)
 Refuses o blocks body b (refusals.WrongPrev hash front) = (s : State) × IsNext o blocks b false s × (hash ≡ header_hash_of s.header) × (front ≡ length blocks)
-Refuses o blocks body b (refusals.Eval e front) = (s : State) × IsNext o blocks b true s × (is_built b ≡ true) × IsStepRefusal s b (refusal_of e) × (front ≡ length blocks)
+Refuses o blocks body b (refusals.Eval e front) = (s : State) × IsNext o blocks b true s × (is_built b ≡ true) × IsBroken s b (refusal_of e) × (front ≡ length blocks)
 Refuses o blocks body b refusals.NotBuilt = (s : State) × IsNext o blocks b true s × (is_built b ≡ false)
 Refuses o blocks body b r = ⊥
 
