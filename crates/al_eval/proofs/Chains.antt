@@ -1,5 +1,5 @@
 -- What a block's changes lead to, that its transactions make or lose no money, and how it comes to what is due.
-use Rattle.std.proofs.Common.{◌≡◌, refl, sym, ap, ◌∙◌, ℕ, ◌+◌, ◌-◌, ◌++◌, Result, Ok, Err, Option, Some, None, Bool, true, false, if◌then◌else◌, option_map, map}
+use Rattle.std.proofs.Common.{◌≡◌, refl, sym, ap, ◌∙◌, ℕ, ◌++◌, Result, Ok, Err, Option, Some, None, Bool, true, false, if◌then◌else◌, option_map, map}
 use Rattle.std.specs.FinMap.{FinMap, get, same_map}
 use Rattle.al_base.specs.Keys.{key_cmp}
 use Rattle.al_block.specs.declared.block.Block.{Block}
@@ -14,7 +14,7 @@ use Rattle.al_rows.proofs.Sames.{same_true}
 use Rattle.al_moves.specs.Moves.{then_do}
 use Rattle.al_moves.proofs.Overlays.{get-now}
 use Rattle.al_eval.specs.Past.{entry_of}
-use Rattle.al_eval.specs.Refusals.{Refusal, header}
+use Rattle.al_eval.specs.Refusals.{Refusal}
 use Rattle.al_eval.specs.Steps.{block_rows}
 use Rattle.al_eval.specs.State.{State, before_of, counts_in, after, stamp, stamped, step, ChangesLead}
 

@@ -1,19 +1,13 @@
 -- What a step that ended answers.
 use Rattle.std.proofs.Common.{◌≡◌, ◌∙◌, ◌≤◌, ◌<◌, ◌+◌, ◌-◌, ◌^◌, sym, ap, ap₂, subst, arith, ℕ, List, map, Result, Ok, Err}
-use Rattle.std.specs.BTreeMap.{BTreeMap}
-use Rattle.std.specs.FinMap.{from_entries}
 use Rattle.al_base.specs.declared.account.Status.TheVariants.{Offline, Online}
-use Rattle.al_base.specs.declared.key.Key.{Key}
 use Rattle.al_block.specs.declared.block.Block.{Block}
 use Rattle.al_block.specs.declared.header.Header.{Header}
-use Rattle.al_block.specs.Hashes.{header_hash_of}
 use Rattle.al_deltas.specs.declared.delta.RoundDelta.{RoundDelta}
 use Rattle.al_rewards.specs.Pending.{max_balance}
 use Rattle.al_rewards.specs.declared.totals.Totals.{Totals}
 use Rattle.al_rewards.specs.Totals.{AreTotals, all_units, capped, raised}
-use Rattle.al_rows.specs.declared.stored.Stored.{Stored}
 use Rattle.al_rows.specs.Rows.{RowMap, bare}
-use Rattle.al_txn.specs.declared.txn.Txn.{Txn}
 use Rattle.al_moves.specs.Moves.{then_do, AreChanges, change_of}
 use Rattle.al_moves.specs.Money.{IsWithin, counts, money}
 use Rattle.al_moves.specs.Works.{Worked}
@@ -22,19 +16,17 @@ use Rattle.al_eval.specs.declared.before.Before.{Before}
 use Rattle.al_eval.specs.declared.before.EvalRefusal.{EvalRefusal}
 use Rattle.al_eval.specs.declared.tail.Entry.{Entry}
 use Rattle.al_eval.specs.Past.{entry_of, live}
-use Rattle.al_eval.specs.Next.{IsNext}
-use Rattle.al_eval.specs.Sound.{IsSoundBefore, IsStep, IsStepRefusal, LeadsTo, Sound, begun}
+use Rattle.al_eval.specs.Sound.{IsStep, IsStepRefusal, LeadsTo, Sound}
 use Rattle.al_eval.specs.Refusals.{Refusal, Verdict, refused, failed, no_memory, refusal_of, IsDue}
 use Rattle.al_eval.specs.Answers.{Evals, TotalsFollow}
 use Rattle.al_eval.specs.Steps.{block_rows}
 use Rattle.al_eval.specs.Pool.{units_before}
-use Rattle.al_eval.specs.State.{State, Steps, after, before_of, counts_in, step, stamped}
-use Rattle.al_eval.proofs.Nexts.{next_is}
+use Rattle.al_eval.specs.State.{State, after, before_of, counts_in, step}
 use Rattle.al_eval.proofs.Sounds.{Leads, block_leads, block_refused, counts_after, due_of, step_keeps}
 use Rattle.al_eval.proofs.Lives.{items_live}
 use Rattle.al_eval.specs.Header.{first_fault, header_checks, rewards_checks, payset_fault, counter_fault, unless_fault}
 use Rattle.al_eval.specs.Pool.{rewards_due, owed_by, pool_paid}
-use Rattle.al_eval.proofs.Chains.{bare_stamped, step_ok}
+use Rattle.al_eval.proofs.Chains.{bare_stamped}
 
 -- ---- the units
 
@@ -138,41 +130,3 @@ eval_is_step known tail rows b r h follow s is alive told sound =
     sound_step s b r sound
     (subst (λ m. Evals (due_of s b) m r) told (subst (λ d. Evals d rows r) due h))
     (subst (λ m. TotalsFollow (due_of s b) (before_of s) b.header m r) told (subst (λ (k : Before). TotalsFollow (due_of s b) k b.header rows r) is (subst (λ d. TotalsFollow d known b.header rows r) due follow)))
-
--- ---- a step over rows in a tree
-
-unfoldable known : Before → List ℕ → Totals → Before
-known s hash totals = record s { hash = hash; totals = totals }
-
--- what a step begins with is what is known of the state
-known_is : (s : Before) (rows : BTreeMap Key Stored) (past : List Txn) → s.hash ≡ header_hash_of s.header → IsSoundBefore s rows past → s ≡ before_of (begun s rows past)
-unfolding known
-known_is s rows past hash is = ap₂ (known s) hash is.totals
-
--- what the block changed, put over the rows before
-left_is : (b : Block) (rows new : BTreeMap Key Stored) (old n : RowMap) (d : RoundDelta) → old ≡ bare (from_entries rows.entries) → d.round ≡ b.header.round → AreChanges old n (map change_of d.changes) → IsNext d.round d.changes rows.entries new.entries
-    → from_entries new.entries ≡ stamped b.header.round (from_entries rows.entries) n
-left_is b rows new old n d told round h next =
-    next_is d.round rows new n d.changes (subst (λ (m : RowMap). AreChanges m n (map change_of d.changes)) told h) next ∙ ap (λ r. stamped r (from_entries rows.entries) n) round
-
-shown : (s : State) (b : Block) (v : Verdict) → IsStepRefusal s b v → IsDue (step s b) v
-shown s b (refused r) h = h.0
-shown s b failed h = tt
-shown s b no_memory h = tt
-
-pub steps_err : {F : Type 0} (s : Before) (tail : List Entry) (b : Block) (rows : BTreeMap Key Stored) (old : RowMap) (e : EvalRefusal F) → s.hash ≡ header_hash_of s.header → old ≡ bare (from_entries rows.entries)
-    → ((t : State) → s ≡ before_of t → live b.header.round tail ≡ live b.header.round (map entry_of t.past) → old ≡ bare t.rows → Sound t → IsStep t b (Err e)) → (past : List Txn) → tail ≡ map entry_of past → IsSoundBefore s rows past → Steps (step (begun s rows past) b) (Err e)
-steps_err s tail b rows old e hash told h past entries is = shown (begun s rows past) b (refusal_of e) (h (begun s rows past) (known_is s rows past hash is) (ap (live b.header.round) entries) told is.sound)
-
-pub steps_ok : (s : Before) (tail : List Entry) (b : Block) (rows new : BTreeMap Key Stored) (old : RowMap) (d : RoundDelta) → s.hash ≡ header_hash_of s.header → old ≡ bare (from_entries rows.entries) → d.round ≡ b.header.round
-    → ((t : State) → s ≡ before_of t → live b.header.round tail ≡ live b.header.round (map entry_of t.past) → old ≡ bare t.rows → Sound t → (n : State) × LeadsTo t b d n) → IsNext d.round d.changes rows.entries new.entries
-    → (past : List Txn) → tail ≡ map entry_of past → IsSoundBefore s rows past → (t : State) × (step (begun s rows past) b ≡ Ok t) × (t.rows ≡ from_entries new.entries) × (d.totals ≡ counts_in t)
-unfolding step
-steps_ok s tail b rows new old d hash told round h next past entries is =
-    let st = begun s rows past in
-    let r = h st (known_is s rows past hash is) (ap (live b.header.round) entries) told is.sound in
-    let o = step_ok st r.0 b (due_of st b) r.1.stepped in
-    let after_is : r.0.rows ≡ stamped b.header.round st.rows o.0 = ap (λ (u : State). u.rows) (sym o.2) in
-    let now : bare r.0.rows ≡ o.0 = ap bare after_is ∙ bare_stamped b.header.round st.rows o.0 in
-    let changes : AreChanges old o.0 (map change_of d.changes) = subst (λ m. AreChanges m o.0 (map change_of d.changes)) (sym told) (subst (λ m. AreChanges (bare st.rows) m (map change_of d.changes)) now r.1.rows) in
-    (r.0, r.1.stepped, after_is ∙ sym (left_is b rows new old o.0 d told round changes next), r.1.totals)

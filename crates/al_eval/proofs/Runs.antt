@@ -12,7 +12,6 @@ use Rattle.al_eval.specs.Refusals.{Refusal}
 use Rattle.al_eval.specs.Groups.{unless_broken, entered, left_after, size_of}
 use Rattle.al_eval.specs.Items.{item_fault, applied, transacted, at_place, all_items, Ran}
 use Rattle.al_eval.specs.Body.{done_by, Context}
-use Rattle.al_eval.specs.State.{step}
 use Rattle.al_eval.specs.Sound.{MayCome}
 use Rattle.al_eval.proofs.Steadies.{Calm, moved_holds, rekeyed_holds, checked_holds, calm_steps}
 use Rattle.al_eval.proofs.Wells.{IsWell, AllWell, well_entered}

@@ -24,7 +24,7 @@ use Rattle.al_genesis.specs.declared.genesis_fields.FirstAccount.{FirstAccount}
 use Rattle.al_genesis.specs.declared.genesis.GenesisRow.{GenesisRow}
 use Rattle.al_genesis.specs.declared.genesis.Genesis.{Genesis}
 use Rattle.al_genesis.specs.Genesis.{IsGenesis, first_row, money_of}
-use Rattle.al_eval.specs.Next.{stored_at}
+use Rattle.al_deltas.specs.Queue.{stored_at}
 use Rattle.al_eval.specs.Start.{with_accounts, and_accounts, start_totals}
 use Rattle.al_base.specs.declared.account.Status.{Status}
 use Rattle.al_base.specs.declared.account.Status.TheVariants.{Offline, Online, NotParticipating}

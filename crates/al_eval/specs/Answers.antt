@@ -12,7 +12,7 @@ use Rattle.al_moves.specs.Moves.{change_of, AreChanges}
 use Rattle.al_moves.specs.Works.{Worked, IsFixed}
 use Rattle.al_eval.specs.declared.before.Before.{Before}
 use Rattle.al_eval.specs.declared.before.EvalRefusal.{EvalRefusal}
-use Rattle.al_eval.specs.Refusals.{Refusal, refusal_of, IsDue, IsCounted, IsNoRefusal, header}
+use Rattle.al_eval.specs.Refusals.{Refusal, refusal_of, IsDue, IsCounted, IsNoRefusal}
 use Rattle.al_eval.specs.Items.{Ran}
 
 -- ---- over a work

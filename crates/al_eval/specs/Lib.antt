@@ -10,7 +10,6 @@ pub mod Steps
 pub mod Turns
 pub mod Answers
 pub mod Evaluated
-pub mod Next
 pub mod State
 pub mod Start
 pub mod Sound

@@ -9,7 +9,7 @@ use Rattle.al_rewards.specs.Next.{least_pool, next_rewards}
 use Rattle.al_rewards.specs.Totals.{all_units, capped}
 use Rattle.al_rows.specs.Rows.{RowMap, account, set_account}
 use Rattle.al_eval.specs.declared.before.Before.{Before}
-use Rattle.al_eval.specs.Refusals.{Refusal, header, pool_short}
+use Rattle.al_eval.specs.Refusals.{Refusal, pool_short}
 
 -- what a header says of rewards
 abbrev pub rewards_of : Header → RewardsState

@@ -3,7 +3,6 @@ use Rattle.std.specs.Prelude.{◌≡◌, ℕ, ⊤}
 use Rattle.std.specs.declared.result.Result.{Result}
 use Rattle.std.specs.declared.result.Result.TheVariants.{Ok, Err}
 use Rattle.al_base.specs.Causes.{Rose}
-use Rattle.al_block.specs.declared.header.Header.{Header}
 use Rattle.al_block.specs.declared.header.Field.{Field}
 use Rattle.al_moves.specs.declared.rule.Rule.{Rule}
 use Rattle.al_eval.specs.declared.before.EvalRefusal.{EvalRefusal}

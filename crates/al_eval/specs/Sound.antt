@@ -4,8 +4,7 @@ use Rattle.std.specs.declared.option.Option.{Option}
 use Rattle.std.specs.declared.option.Option.TheVariants.{None, Some}
 use Rattle.std.specs.declared.result.Result.{Result}
 use Rattle.std.specs.declared.result.Result.TheVariants.{Ok, Err}
-use Rattle.std.specs.FinMap.{get, from_entries}
-use Rattle.std.specs.BTreeMap.{BTreeMap}
+use Rattle.std.specs.FinMap.{get}
 use Rattle.al_base.specs.declared.account.Special.{Special}
 use Rattle.al_base.specs.declared.account.Status.TheVariants.{NotParticipating}
 use Rattle.al_base.specs.declared.address.Address.{Address}
@@ -36,10 +35,9 @@ use Rattle.al_genesis.specs.Genesis.{IsGenesis}
 use Rattle.al_eval.specs.Start.{start, start_totals}
 use Rattle.al_eval.specs.State.{State, step, counts_in}
 use Rattle.al_deltas.specs.declared.delta.RoundDelta.{RoundDelta}
-use Rattle.al_eval.specs.declared.before.Before.{Before}
+use Rattle.al_deltas.specs.Queue.{after_delta}
 use Rattle.al_eval.specs.declared.before.EvalRefusal.{EvalRefusal}
-use Rattle.al_rows.specs.declared.stored.Stored.{Stored}
-use Rattle.al_txn.specs.declared.txn.Txn.{Txn}
+use Rattle.al_eval.specs.Answers.{IsDeltaOf}
 use Rattle.al_eval.specs.Refusals.{Refusal, broken, header, pool_short, Verdict, refused, failed, no_memory, refusal_of}
 
 abbrev pub one_if : Bool → ℕ
@@ -172,17 +170,6 @@ pub record Sound (s : State) : Type 0 where
 abbrev pub Apart : State → Type 0
 Apart s = (app : ℕ) → app ≤ s.header.counter + 1 → (same_address (app_account app) s.chain.special.sink ≡ false) × (same_address (app_account app) s.chain.special.pool ≡ false)
 
--- ---- what a step begins with
-
--- the state of rows in a tree, and what is known beside them
-abbrev pub begun : Before → BTreeMap Key Stored → List Txn → State
-begun s rows past = record { chain = s.chain; header = s.header; rows = from_entries rows.entries; past = past }
-
--- the state is sound, and the totals are those of its rows
-pub record IsSoundBefore (s : Before) (rows : BTreeMap Key Stored) (past : List Txn) : Type 0 where
-  pub sound : Sound (begun s rows past)
-  pub totals : s.totals ≡ counts_in (begun s rows past)
-
 -- ---- what a step over a sound state answers
 
 -- what a delta leads to: the state that is due, which is sound, with its rows, its totals and the same money
@@ -229,3 +216,7 @@ pub record StepIsSound : Type 0 where
   pub keeps : (s t : State) (b : Block) → Sound s → step s b ≡ Ok t → money t.header.level (bare t.rows) ≡ money s.header.level (bare s.rows)
   pub pays : (s : State) (b : Block) (pool owed : ℕ) → Sound s → step s b ≢ Err (pool_short pool owed)
   pub within : (s : State) (b : Block) (place : ℕ) (rule : Rule) → Sound s → step s b ≡ Err (broken place rule) → IsOtherRule rule
+
+-- over a sound state the rows after a block are those before with what it changes put over them
+abbrev pub RowsFollow : Type 0
+RowsFollow = (s t : State) (b : Block) (d : RoundDelta) → IsDeltaOf b.header d → LeadsTo s b d t → t.rows ≡ after_delta d s.rows

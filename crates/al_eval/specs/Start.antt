@@ -13,7 +13,7 @@ use Rattle.al_rows.specs.Finite.{set_at}
 use Rattle.al_rows.specs.Rows.{unless_zero}
 use Rattle.al_genesis.specs.declared.genesis.GenesisRow.{GenesisRow}
 use Rattle.al_genesis.specs.declared.genesis.Genesis.{Genesis}
-use Rattle.al_eval.specs.Next.{stored_at}
+use Rattle.al_deltas.specs.Queue.{stored_at}
 use Rattle.al_eval.specs.State.{State}
 
 -- the rows with an account's, which no block has changed; a zero row is none

@@ -1,10 +1,10 @@
 -- The ledger's state, the step of a block over it, and the replay of blocks.
-use Rattle.std.specs.Prelude.{◌≡◌, ℕ, List, [], ◌∷◌, ◌++◌, map, take, ⊤, if◌then◌else◌}
+use Rattle.std.specs.Prelude.{◌≡◌, ℕ, List, [], ◌∷◌, ◌++◌, map, take, if◌then◌else◌}
 use Rattle.std.specs.declared.option.Option.{Option}
 use Rattle.std.specs.declared.option.Option.TheVariants.{None, Some}
 use Rattle.std.specs.declared.result.Result.{Result}
 use Rattle.std.specs.declared.result.Result.TheVariants.{Ok, Err}
-use Rattle.std.specs.FinMap.{FinMap, get, from_entries}
+use Rattle.std.specs.FinMap.{FinMap, get}
 use Rattle.al_base.specs.declared.key.Key.{Key}
 use Rattle.al_base.specs.Keys.{key_cmp}
 use Rattle.al_block.specs.declared.header.Header.{Header}
@@ -16,17 +16,13 @@ use Rattle.al_rows.specs.Finite.{map_entries, overlaid}
 use Rattle.al_rows.specs.Rows.{RowMap, bare, row_eq}
 use Rattle.al_rewards.specs.declared.totals.Totals.{Totals}
 use Rattle.al_rewards.specs.Totals.{all_units}
-use Rattle.al_bodies.specs.declared.body.Body.{Body}
-use Rattle.al_bodies.specs.declared.body.Body.TheVariants as body
 use Rattle.al_txn.specs.declared.chain.Chain.{Chain}
 use Rattle.al_txn.specs.declared.txn.Txn.{Txn}
 use Rattle.al_moves.specs.Moves.{then_do, AreChanges}
 use Rattle.al_moves.specs.Money.{counts}
 use Rattle.al_eval.specs.declared.before.Before.{Before}
-use Rattle.al_eval.specs.declared.next.Stepped.{Stepped}
-use Rattle.al_eval.specs.declared.before.EvalRefusal.{EvalRefusal}
 use Rattle.al_eval.specs.Past.{entry_of}
-use Rattle.al_eval.specs.Refusals.{Refusal, IsDue, refusal_of}
+use Rattle.al_eval.specs.Refusals.{Refusal}
 use Rattle.al_eval.specs.Steps.{block_rows}
 
 -- what is fixed of the chain, the header of the last block, the rows with the rounds that changed them last, and all transactions so far in order
@@ -81,16 +77,6 @@ level_in (Err r) = 0
 -- the reward level after the first n blocks
 abbrev pub level_at : State → List Block → ℕ → ℕ
 level_at s bs n = level_in (replay s (take n bs))
-
--- a transaction that pays
-abbrev pub IsPay : Body → Type 0
-IsPay (body.Pay p) = ⊤
-IsPay b = ⊥
-
--- the rows and the totals of the state that is due, or the refusal that is due
-abbrev pub Steps : {F : Type 0} → Result State Refusal → Result Stepped (EvalRefusal F) → Type 0
-Steps due (Ok n) = (s : State) × (due ≡ Ok s) × (s.rows ≡ from_entries n.rows.entries) × (n.totals ≡ counts_in s)
-Steps due (Err e) = IsDue due (refusal_of e)
 
 -- ---- laws
 

@@ -1,6 +1,6 @@
 //! Laws of the definitions.
 ghost use Rattle.al_eval.specs.State.{ChangesLead};
-ghost use Rattle.al_eval.specs.Sound.{StartIsCounted, StartIsSound, StepIsSound};
+ghost use Rattle.al_eval.specs.Sound.{RowsFollow, StartIsCounted, StartIsSound, StepIsSound};
 
 /// What a block changes leads from the rows before to those after.
 pub fn changes_lead()
@@ -21,4 +21,10 @@ pub fn start_is_counted()
 /// because the pool could not pay, or because a balance would pass the most.
 pub fn step_is_sound()
     ensures { StepIsSound }
+{}
+
+/// What a block of a sound state changes, put over the rows before it, gives the rows after it, each
+/// with the round of its last change: those that differ have the block's round, all others theirs.
+pub fn rows_follow()
+    ensures { RowsFollow }
 {}

@@ -7,7 +7,6 @@ mod header;
 mod latest;
 mod laws;
 mod lent;
-mod next;
 mod pool;
 mod run;
 mod start;
@@ -16,8 +15,7 @@ mod transact;
 
 pub use al_genesis::{Genesis, GenesisFault, GenesisRow, GenesisRows};
 pub use before::{Before, EvalRefusal};
-pub use laws::{changes_lead, start_is_counted, start_is_sound, step_is_sound};
-pub use next::{Stepped, step_rows};
+pub use laws::{changes_lead, rows_follow, start_is_counted, start_is_sound, step_is_sound};
 pub use run::{Evaluated, eval, eval_with_entries};
 pub use start::{start_rows, start_totals};
 pub use tail::{Entry, Tail};

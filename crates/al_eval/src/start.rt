@@ -7,12 +7,12 @@ ghost use Rattle.al_base.specs.declared.key.Key.TheVariants.{Account};
 ghost use Rattle.al_moves.specs.Works.{at};
 ghost use Rattle.al_rows.specs.Rows.{AccountInRange, IsKept, unless_zero};
 ghost use Rattle.al_rows.specs.declared.row.Row.TheVariants as row;
-ghost use Rattle.al_eval.specs.Next.{stored_at};
+ghost use Rattle.al_deltas.specs.Queue.{stored_at};
 ghost use Rattle.al_rewards.specs.Totals.{AreTotals};
 ghost use Rattle.al_eval.specs.Start.{start_rows, start_totals};
 
-use crate::next::{put, take_away};
 use al_base::Key;
+use al_deltas::{put_row, take_row};
 use al_genesis::GenesisRow;
 use al_moves::share_of;
 use al_rewards::Totals;
@@ -26,9 +26,9 @@ fn put_account(rows: &mut BTreeMap<Key, Stored>, account: &GenesisRow) -> Result
 {
     let key = Key::Account(account.address);
     match Row::Account(account.row).unless_zero() {
-        Some(row) => put(rows, &key, Stored { row, changed: 0 }),
+        Some(row) => put_row(rows, &key, Stored { row, changed: 0 }),
         None => {
-            take_away(rows, &key);
+            take_row(rows, &key);
             Ok(())
         }
     }

@@ -5,8 +5,8 @@ use Rattle.al_base.specs.Causes.{Rose}
 use Rattle.al_session.specs.declared.link.Ended.{Ended}
 use Rattle.al_session.specs.declared.link.Ended.TheVariants as ended
 use Rattle.al_states.specs.declared.states.States.{States}
-use Rattle.al_states.specs.declared.states.OpenFault.{OpenFault}
-use Rattle.al_states.specs.declared.states.OpenFault.TheVariants as faults
+use Rattle.al_states.specs.declared.opening.OpenFault.{OpenFault}
+use Rattle.al_states.specs.declared.opening.OpenFault.TheVariants as faults
 use Rattle.al_states.proofs.OpenLemmas.{refused_digit}
 use Rattle.al_session.specs.Connection.{Serves}
 use Rattle.al_states.specs.Held.{Held}

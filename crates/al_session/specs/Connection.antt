@@ -13,7 +13,7 @@ use Rattle.al_http.specs.declared.answer.Answer.{Answer}
 use Rattle.al_http.specs.declared.asking.Request.{Request}
 use Rattle.al_session.specs.declared.link.Ended.{Ended}
 use Rattle.al_session.specs.declared.link.Ended.TheVariants as ended
-use Rattle.al_states.specs.declared.states.Told.{Told}
+use Rattle.al_states.specs.declared.told.Told.{Told}
 use Rattle.al_states.specs.Held.{Held}
 use Rattle.al_states.specs.Replies.{taken, IsAnswer}
 use Rattle.al_session.specs.Taking.{IsRefusedPiece}

@@ -10,8 +10,8 @@ use Rattle.al_eval.specs.Start.{start}
 use Rattle.al_session.specs.Connection.{Serves}
 use Rattle.al_states.specs.Held.{Held, IsValid, KeepsMoney}
 use Rattle.al_states.specs.Opening.{IsRefusedGenesis}
-use Rattle.al_states.specs.declared.states.OpenFault.{OpenFault}
-use Rattle.al_states.specs.declared.states.OpenFault.TheVariants as faults
+use Rattle.al_states.specs.declared.opening.OpenFault.{OpenFault}
+use Rattle.al_states.specs.declared.opening.OpenFault.TheVariants as faults
 use Rattle.al_session.specs.declared.link.Ended.{Ended}
 use Rattle.al_session.specs.declared.link.Ended.TheVariants as ended
 

@@ -1,184 +1,275 @@
 -- The kept states are those of the chain.
-use Rattle.std.proofs.Common.{◌≡◌, ◌≤◌, ◌<◌, ◌-◌, ℕ, zero, suc, List, [], ◌∷◌, ◌++◌, length, take, map, All, get_or, refl, sym, ap, ap₂, ◌∙◌, arith, subst, length-append, Result, Ok, Err, Option, Some, None, IfSome}
-use Rattle.std.proofs.lemmas.List.{map-append}
-use Rattle.std.proofs.lemmas.List.Elements.{All-push}
+use Rattle.std.proofs.Common.{◌≡◌, ◌≤◌, ◌<◌, ◌-◌, ℕ, zero, suc, List, [], ◌∷◌, ◌++◌, length, length-append, take, map, All, get_or, refl, sym, ap, ap₂, ◌∙◌, arith, subst, true, false, Result, Ok, Err, Option, Some, None, IfOk, IfSome, option_map}
+use Rattle.std.proofs.lemmas.List.{map-append, length-map}
+use Rattle.std.proofs.lemmas.List.Elements.{All-push, recursion_from_All}
+use Rattle.std.specs.List.{AllByRecursion}
+use Rattle.std.specs.FinMap.{get}
+use Rattle.std.specs.List.Sorted.{IsStrictlySortedBy}
+use Rattle.al_base.specs.declared.key.Key.{Key}
+use Rattle.al_base.specs.Keys.{key_cmp}
 use Rattle.al_msgpack.proofs.Canonical.{spells_only}
 use Rattle.al_msgpack.specs.declared.val.Val.TheVariants as values
 use Rattle.al_block.specs.Block.{block, IsBlock}
-use Rattle.std.specs.BTreeMap as tree
-use Rattle.std.specs.FinMap.{FinMap, from_entries, get}
-use Rattle.al_base.specs.declared.key.Key.{Key}
-use Rattle.al_base.specs.Keys.{key_cmp}
 use Rattle.al_block.specs.declared.block.Block.{Block}
 use Rattle.al_block.specs.declared.header.Header.{Header}
 use Rattle.al_block.specs.Hashes.{header_hash_of}
-use Rattle.al_txn.specs.declared.chain.Chain.{Chain}
-use Rattle.al_txn.specs.declared.txn.Txn.{Txn}
-use Rattle.al_txn.specs.declared.txn.Item.{Item}
-use Rattle.al_moves.specs.Moves.{then_do}
-use Rattle.al_rows.specs.declared.stored.Stored.{Stored}
-use Rattle.al_rows.specs.Rows.{IsKept, bare}
+use Rattle.al_deltas.specs.declared.delta.RoundDelta.{RoundDelta}
+use Rattle.al_deltas.specs.Queue.{Queue, StoredMap, IsKeptDelta, after_delta, last_change, last_of, left_by, level_after, rows_after, stored_at, top, up_to}
+use Rattle.al_deltas.proofs.Queues.{last_pushed, rows_are, rows_then}
 use Rattle.al_rewards.specs.declared.totals.Totals.{Totals}
-use Rattle.al_moves.specs.Money.{counts}
-use Rattle.al_rows.proofs.Views.{get-of_entries, ranged-get}
 use Rattle.al_rows.specs.declared.row.Row.{Row}
-use Rattle.al_rows.specs.declared.row.Row.TheVariants as rows
-use Rattle.al_base.specs.declared.address.Address.{Address}
-use Rattle.al_base.specs.declared.key.Key.TheVariants as keys
-use Rattle.al_http.specs.Answers.{IsSound}
-use Rattle.al_states.specs.Replies.{account_of, account_answer, IsBlockOf}
+use Rattle.al_rows.specs.declared.stored.Stored.{Stored}
+use Rattle.al_rows.specs.Finite.{or_below}
+use Rattle.al_rows.specs.Rows.{IsKept, bare, same_bytes}
+use Rattle.std.proofs.lemmas.Slice.Eq.{bytes_eq-Decides}
+use Rattle.al_txn.specs.declared.chain.Chain.{Chain}
+use Rattle.al_txn.specs.declared.txn.Item.{Item}
+use Rattle.al_txn.specs.declared.txn.Txn.{Txn}
+use Rattle.al_moves.specs.Moves.{then_do}
+use Rattle.al_moves.specs.Money.{counts}
+use Rattle.al_eval.specs.Answers.{IsDeltaOf}
+use Rattle.al_eval.specs.Evaluated.{delta_in}
 use Rattle.al_eval.specs.Past.{entry_of}
+use Rattle.al_eval.specs.Sound.{IsStep}
+use Rattle.al_eval.specs.declared.before.Before.{Before}
+use Rattle.al_eval.specs.declared.before.EvalRefusal.{EvalRefusal}
+use Rattle.al_eval.specs.declared.run.Evaluated.{Evaluated}
 use Rattle.al_eval.specs.declared.tail.Entry.{Entry}
 use Rattle.al_eval.specs.Steps.{Refusal}
-use Rattle.al_eval.specs.State.{State, step, replay, row_at, row_in, level_at, level_in}
+use Rattle.al_eval.specs.State.{State, before_of, step, replay, row_at, row_in, level_at, level_in}
 use Rattle.al_eval.proofs.Chains.{after_step}
-use Rattle.al_states.specs.declared.states.Accepted.{Accepted}
+use Rattle.al_eval.proofs.Nexts.{rows_follow}
+use Rattle.al_states.specs.declared.keeping.KeptBlock.{KeptBlock}
 use Rattle.al_states.specs.declared.states.States.{States}
 use Rattle.al_states.specs.Held.{IsValid}
-use Rattle.al_states.specs.Keeping.{Tree, origin_of, blocks_of, Follows, rows_at, header_at, last_rows, AllKept, IsKeeping, IsStates, held, Leads}
+use Rattle.al_states.specs.Keeping.{EvaluatesTo, Follows, IsEvaluated, IsKeeping, IsStates, Leads, blocks_of, caught_up, held, origin_of}
+use Rattle.al_states.specs.Replies.{IsBlockOf}
 
 -- replay goes on from where it came
 pub replay-then : (o s : State) (b : Block) (bs : List Block) → step o b ≡ Ok s → replay o (b ∷ bs) ≡ replay s bs
 replay-then o s b bs e = ap (λ r. then_do r (λ t. replay t bs)) e
 
-split : (r : Result State Refusal) (s : State) (xs ys : List Block) → ((t : State) → replay t xs ≡ Ok s → replay t (xs ++ ys) ≡ replay s ys) → then_do r (λ t. replay t xs) ≡ Ok s → then_do r (λ t. replay t (xs ++ ys)) ≡ replay s ys
-split (Ok t) s xs ys f e = f t e
-split (Err r) s xs ys f e = absurd cc
-
-pub replay-append : (o s : State) (xs ys : List Block) → replay o xs ≡ Ok s → replay o (xs ++ ys) ≡ replay s ys
-replay-append o s [] ys e = let same : o ≡ s = cc in ap (λ t. replay t ys) same
-replay-append o s (x ∷ xs) ys e = split (step o x) s xs ys (λ t h. replay-append t s xs ys h) e
-
 -- what is kept leads through the replay
-pub follows_replay : (o last : State) (more : List Accepted) → Follows o more last → replay o (blocks_of more) ≡ Ok last
-follows_replay o last [] e = ap Ok e
-follows_replay o last (a ∷ more) (n, stepped, rows, rest) = replay-then o n a.block (blocks_of more) stepped ∙ follows_replay n last more rest
+pub follows_replay : (o last : State) (bs : List Block) (ds : List RoundDelta) → Follows o bs ds last → replay o bs ≡ Ok last
+follows_replay o last [] [] e = ap Ok e
+follows_replay o last [] (d ∷ ds) f = absurd f
+follows_replay o last (b ∷ bs) [] f = absurd f
+follows_replay o last (b ∷ bs) (d ∷ ds) (n, stepped, rows, header, rest) = replay-then o n b bs stepped ∙ follows_replay n last bs ds rest
 
-pub follows_push : (o last next : State) (more : List Accepted) (a : Accepted) → Follows o more last → step last a.block ≡ Ok next → next.rows ≡ from_entries a.rows.entries → Follows o (more ++ a ∷ []) next
-follows_push o last next [] a e stepped rows = (next, ap (λ s. step s a.block) e ∙ stepped, rows, refl)
-follows_push o last next (x ∷ more) a (n, first, kept, rest) stepped rows = (n, first, kept, follows_push n last next more a rest stepped rows)
+pub follows_length : (o last : State) (bs : List Block) (ds : List RoundDelta) → Follows o bs ds last → length ds ≡ length bs
+follows_length o last [] [] e = refl
+follows_length o last [] (d ∷ ds) f = absurd f
+follows_length o last (b ∷ bs) [] f = absurd f
+follows_length o last (b ∷ bs) (d ∷ ds) (n, stepped, rows, header, rest) = ap suc (follows_length n last bs ds rest)
 
--- the rows and the header after the first k blocks are those of the replay
-pub record IsAt (o : State) (more : List Accepted) (k : ℕ) (rows : Tree) (header : Header) : Type 0 where
+follows_push : (o last next : State) (bs : List Block) (ds : List RoundDelta) (b : Block) (d : RoundDelta) → Follows o bs ds last → step last b ≡ Ok next → next.rows ≡ after_delta d last.rows → d.header ≡ b.header → Follows o (bs ++ b ∷ []) (ds ++ d ∷ []) next
+follows_push o last next [] [] b d e stepped rows header = (next, ap (λ s. step s b) e ∙ stepped, rows ∙ ap (λ (s : State). after_delta d s.rows) (sym e), header, refl)
+follows_push o last next [] (x ∷ ds) b d f stepped rows header = absurd f
+follows_push o last next (x ∷ bs) [] b d f stepped rows header = absurd f
+follows_push o last next (x ∷ bs) (y ∷ ds) b d (n, first, kept, same, rest) stepped rows header = (n, first, kept, same, follows_push n last next bs ds b d rest stepped rows header)
+
+-- the rows and the level after the first k blocks are those of the replay
+pub record IsAt (o : State) (bs : List Block) (ds : List RoundDelta) (k : ℕ) : Type 0 where
   pub state : State
-  pub replayed : replay o (take k (blocks_of more)) ≡ Ok state
-  pub rows_are : state.rows ≡ from_entries (rows_at rows more k).entries
-  pub header_is : state.header ≡ header_at header more k
+  pub replayed : replay o (take k bs) ≡ Ok state
+  pub rows_are : state.rows ≡ rows_after (take k ds) o.rows
+  pub level_is : state.header.level ≡ level_after (take k ds) o.header.level
 
-pub follows_at : (o last : State) (rows : Tree) (header : Header) (more : List Accepted) (k : ℕ) → Follows o more last → o.rows ≡ from_entries rows.entries → o.header ≡ header → k ≤ length more → IsAt o more k rows header
-follows_at o last rows header more zero f r h fits = record { state = o; replayed = refl; rows_are = r; header_is = h }
-follows_at o last rows header [] (suc k) f r h fits = absurd (omega (arith, fits))
-follows_at o last rows header (a ∷ more) (suc k) (n, stepped, kept, rest) r h fits =
-    let found = follows_at n last a.rows a.block.header more k rest kept (after_step o n a.block stepped).0 (omega (arith, fits)) in
-    record { state = found.state; replayed = replay-then o n a.block (take k (blocks_of more)) stepped ∙ found.replayed; rows_are = found.rows_are; header_is = found.header_is }
-
--- ---- by index
-
-pub rows_at_is : (rows : Tree) (xs : List Accepted) (k : ℕ) (d : Accepted) → k < length xs → (get_or xs k d).rows ≡ rows_at rows xs (suc k)
-rows_at_is rows [] k d h = absurd (omega (arith, h))
-rows_at_is rows (a ∷ more) zero d h = refl
-rows_at_is rows (a ∷ more) (suc k) d h = rows_at_is a.rows more k d (omega (arith, h))
-
-pub level_at_is : (header : Header) (xs : List Accepted) (k : ℕ) (d : Accepted) → k < length xs → (get_or xs k d).block.header.level ≡ (header_at header xs (suc k)).level
-level_at_is header [] k d h = absurd (omega (arith, h))
-level_at_is header (a ∷ more) zero d h = refl
-level_at_is header (a ∷ more) (suc k) d h = level_at_is a.block.header more k d (omega (arith, h))
-
-pub before : (n : ℕ) → 0 < n → suc (n - 1) ≡ n
-before n h = omega (arith, h)
-
-rows_last : (rows : Tree) (xs : List Accepted) (a : Accepted) → rows_at rows (xs ++ a ∷ []) (suc (length xs)) ≡ a.rows
-rows_last rows [] a = refl
-rows_last rows (x ∷ more) a = rows_last x.rows more a
+pub follows_at : (o last : State) (bs : List Block) (ds : List RoundDelta) (k : ℕ) → Follows o bs ds last → IsAt o bs ds k
+follows_at o last bs ds zero f = record { state = o; replayed = refl; rows_are = refl; level_is = refl }
+follows_at o last [] [] (suc k) f = record { state = o; replayed = refl; rows_are = refl; level_is = refl }
+follows_at o last [] (d ∷ ds) (suc k) f = absurd f
+follows_at o last (b ∷ bs) [] (suc k) f = absurd f
+follows_at o last (b ∷ bs) (d ∷ ds) (suc k) (n, stepped, rows, header, rest) =
+    let found = follows_at n last bs ds k rest in
+    record {
+      state = found.state;
+      replayed = replay-then o n b (take k bs) stepped ∙ found.replayed;
+      rows_are = found.rows_are ∙ ap (rows_after (take k ds)) rows;
+      level_is = found.level_is ∙ ap (λ (h : Header). level_after (take k ds) h.level) ((after_step o n b stepped).0 ∙ sym header);
+    }
 
 -- ---- what is held
 
+-- the state after the blocks that are held
+abbrev pub last_state : (s : States) → IsStates s → State
+last_state s k = record { chain = s.before.chain; header = s.before.header; rows = rows_after s.deltas.deltas s.base; past = k.past }
+
+pub led_to_last : (s : States) (k : IsStates s) → replay (held s).origin (held s).blocks ≡ Ok (last_state s k)
+led_to_last s k = follows_replay (held s).origin (last_state s k) (held s).blocks s.deltas.deltas k.follows
+
 pub states_valid : (s : States) → IsStates s → IsValid (held s).origin (held s).blocks
-states_valid s k = (record { chain = s.before.chain; header = s.before.header; rows = from_entries (last_rows s.rows s.accepted.items).entries; past = k.past }, follows_replay (held s).origin _ s.accepted.items k.follows)
+states_valid s k = (last_state s k, led_to_last s k)
 
-pub states_at : (s : States) (n : ℕ) → IsStates s → n ≤ length s.accepted.items → IsAt (held s).origin s.accepted.items n s.rows s.first
-states_at s n k fits = follows_at (held s).origin _ s.rows s.first s.accepted.items n k.follows refl refl fits
+pub states_at : (s : States) (n : ℕ) → IsStates s → IsAt (held s).origin (held s).blocks s.deltas.deltas n
+states_at s n k = follows_at (held s).origin (last_state s k) (held s).blocks s.deltas.deltas n k.follows
 
--- the row and the level after a round
-pub row_is : (s : States) (n : ℕ) (key : Key) → IsStates s → n ≤ length s.accepted.items → row_at (held s).origin (held s).blocks n key ≡ tree.get key_cmp (rows_at s.rows s.accepted.items n) key
-row_is s n key k fits =
-    let x = states_at s n k fits in
-    ap (row_in key) x.replayed ∙ ap (λ m. get m key) x.rows_are ∙ get-of_entries (rows_at s.rows s.accepted.items n) key
+-- the queue begins at round 0, and its last round is that of the last block
+pub top_is : (s : States) → IsStates s → top s.deltas ≡ length (held s).blocks
+top_is s k = (let long = follows_length (held s).origin (last_state s k) (held s).blocks s.deltas.deltas k.follows in let begins = k.begins in omega (arith, long, begins))
 
-pub level_is : (s : States) (n : ℕ) → IsStates s → n ≤ length s.accepted.items → level_at (held s).origin (held s).blocks n ≡ (header_at s.first s.accepted.items n).level
-level_is s n k fits = let x = states_at s n k fits in ap level_in x.replayed ∙ ap (λ (h : Header). h.level) x.header_is
+first_rounds : (s : States) (n : ℕ) → IsStates s → up_to n s.deltas ≡ take n s.deltas.deltas
+first_rounds s n k = ap (λ b. take (n - b) s.deltas.deltas) k.begins ∙ ap (λ m. take m s.deltas.deltas) (let e : n - 0 ≡ n = omega arith in e)
 
--- ---- all rows are kept ones
+-- the row after a round
+row_is : (s : States) (n : ℕ) (key : Key) → IsStates s → row_at (held s).origin (held s).blocks n key ≡ or_below (option_map left_by (last_change key (up_to n s.deltas))) (get s.base key)
+row_is s n key k =
+    let x = states_at s n k in
+    ap (row_in key) x.replayed
+    ∙ ap (λ m. get m key) x.rows_are
+    ∙ rows_are (take n s.deltas.deltas) s.base key
+    ∙ ap (λ ds. or_below (option_map left_by (last_change key ds)) (get s.base key)) (sym (first_rounds s n k))
 
-pub kept_at : (rows : Tree) (xs : List Accepted) (n : ℕ) → AllKept rows xs → All (λ e. IsKept e.0 e.1.row) (rows_at rows xs n).entries
-kept_at rows [] zero h = h
-kept_at rows (a ∷ more) zero h = h.0
-kept_at rows [] (suc k) h = h
-kept_at rows (a ∷ more) (suc k) h = kept_at a.rows more k h.1
+plain : (round : ℕ) (row : Option Row) → option_map (λ s. s.row) (stored_at round row) ≡ row
+plain round None = refl
+plain round (Some r) = refl
 
-kept_push : (rows : Tree) (xs : List Accepted) (a : Accepted) → AllKept rows xs → All (λ e. IsKept e.0 e.1.row) a.rows.entries → AllKept rows (xs ++ a ∷ [])
-kept_push rows [] a h all = (h, all)
-kept_push rows (x ∷ more) a h all = (h.0, kept_push x.rows more a h.1 all)
+-- it is what its last change left
+pub row_changed : (s : States) (n : ℕ) (key : Key) (c : ℕ × Option Row) → IsStates s → Some c ≡ last_change key (up_to n s.deltas) → c.1 ≡ option_map (λ s. s.row) (row_at (held s).origin (held s).blocks n key)
+row_changed s n key c k found =
+    sym (plain c.0 c.1)
+    ∙ ap (λ o. option_map (λ (x : Stored). x.row) (or_below (option_map left_by o) (get s.base key))) found
+    ∙ sym (ap (option_map (λ (x : Stored). x.row)) (row_is s n key k))
 
-row_sound : (front round level : ℕ) (who : Address) (x : Row) → IsKept (keys.Account who) x → IsSound (account_of front round level x)
-row_sound front round level who (rows.Account r) h = h.0.1
-row_sound front round level who (rows.Asset r) h = tt
-row_sound front round level who (rows.App r) h = tt
-row_sound front round level who (rows.Box r) h = tt
+-- or the row at the origin
+pub row_below : (s : States) (n : ℕ) (key : Key) → IsStates s → None ≡ last_change key (up_to n s.deltas) → option_map (λ s. s.row) (get s.base key) ≡ option_map (λ s. s.row) (row_at (held s).origin (held s).blocks n key)
+row_below s n key k found =
+    ap (λ o. option_map (λ (x : Stored). x.row) (or_below (option_map left_by o) (get s.base key))) found
+    ∙ sym (ap (option_map (λ (x : Stored). x.row)) (row_is s n key k))
 
-account_sound : (front round level : ℕ) (who : Address) (o : Option Stored) → IfSome o (λ s. IsKept (keys.Account who) s.row) → IsSound (account_answer front round level o)
-account_sound front round level who None h = tt
-account_sound front round level who (Some s) h = row_sound front round level who s.row h
-
--- an account of kept rows is shown with its counts in their range
-pub shown_sound : (t : Tree) (front round level : ℕ) (who : Address) (o : Option Stored) → All (λ e. IsKept e.0 e.1.row) t.entries → o ≡ tree.get key_cmp t (keys.Account who) → IsSound (account_answer front round level o)
-shown_sound t front round level who o h is =
-    account_sound front round level who o (subst (λ (p : Option Stored). IfSome p (λ (s : Stored). IsKept (keys.Account who) s.row)) (sym is) (ranged-get (λ k (s : Stored). IsKept k s.row) t.entries (keys.Account who) h))
+pub level_is : (s : States) (n : ℕ) → IsStates s → level_after (up_to n s.deltas) s.deltas.totals.level ≡ level_at (held s).origin (held s).blocks n
+level_is s n k =
+    let x = states_at s n k in
+    ap (λ ds. level_after ds s.deltas.totals.level) (first_rounds s n k) ∙ ap (level_after (take n s.deltas.deltas)) k.level ∙ sym (ap level_in x.replayed ∙ x.level_is)
 
 -- ---- the block of a round
 
-pub block_of_at : (xs : List Accepted) (k : ℕ) (d : Accepted) → k < length xs → IsBlockOf (blocks_of xs) (suc k) (get_or xs k d).block
+pub block_of_at : (xs : List KeptBlock) (k : ℕ) (d : KeptBlock) → k < length xs → IsBlockOf (blocks_of xs) (suc k) (get_or xs k d).block
 block_of_at [] k d h = absurd (omega (arith, h))
 block_of_at (x ∷ more) zero d h = ([], blocks_of more, refl, refl)
 block_of_at (x ∷ more) (suc k) d h = let r = block_of_at more k d (omega (arith, h)) in (x.block ∷ r.0, r.1, ap (λ zs. x.block ∷ zs) r.2, ap suc r.3)
 
+before : (n : ℕ) → 0 < n → suc (n - 1) ≡ n
+before n h = omega (arith, h)
+
 -- bytes that spell one block are the same
-pub one_spelling : (a b : List ℕ) (x : Block) → IsBlock a x → IsBlock b x → a ≡ b
+one_spelling : (a b : List ℕ) (x : Block) → IsBlock a x → IsBlock b x → a ≡ b
 one_spelling a b x p q = sym (spells_only 16 (values.Map (block.write x)) a p.spells) ∙ spells_only 16 (values.Map (block.write x)) b q.spells
+
+module _ (s : States) (k : IsStates s) (round : ℕ) (kept : KeptBlock) (some : 0 < round) (fits : round ≤ length (held s).blocks) (at : kept ≡ get_or s.kept.items (round - 1) kept) where
+  short : round - 1 < length s.kept.items
+  short = omega (arith, some, fits, length-map s.kept.items (λ (x : KeptBlock). x.block))
+
+  pub kept_block : IsBlockOf (held s).blocks round kept.block
+  kept_block =
+      let first : IsBlockOf (held s).blocks round (get_or s.kept.items (round - 1) kept).block = subst (λ r. IsBlockOf (held s).blocks r (get_or s.kept.items (round - 1) kept).block) (before round some) (block_of_at s.kept.items (round - 1) kept short) in
+      subst (λ (x : KeptBlock). IsBlockOf (held s).blocks round x.block) (sym at) first
+
+  pub kept_spelled : IsBlock kept.bytes.items kept.block
+  kept_spelled = subst (λ (x : KeptBlock). IsBlock x.bytes.items x.block) (sym at) (k.spelled (round - 1) kept short)
+
+  -- the same bytes spell it
+  pub same_spelled : (body bytes : List ℕ) → bytes ≡ kept.bytes.items → same_bytes bytes body ≡ true → IsBlock body kept.block
+  same_spelled body bytes seen same = subst (λ zs. IsBlock zs kept.block) (sym seen ∙ (bytes_eq-Decides bytes body).0 same) kept_spelled
+
+  -- other bytes do not
+  pub other_spelled : (body bytes : List ℕ) → bytes ≡ kept.bytes.items → same_bytes bytes body ≡ false → IsBlock body kept.block → ⊥
+  other_spelled body bytes seen differ x =
+      let one : bytes ≡ body = seen ∙ one_spelling kept.bytes.items body kept.block kept_spelled x in
+      let e : same_bytes bytes body ≡ true = ap (same_bytes bytes) (sym one) ∙ (bytes_eq-Decides bytes bytes).1 refl in
+      absurd cc
+
+-- ---- the step
+
+unfoldable known : Before → List ℕ → Totals → Before
+known s hash totals = record s { hash = hash; totals = totals }
+
+-- what the next step begins with is what is known of the last state
+pub before_is : (s : States) (k : IsStates s) → s.before ≡ before_of (last_state s k)
+unfolding known
+before_is s k = ap₂ (known s.before) k.hash_is k.totals_are
+
+-- what a step gives over the stored rows
+pub evaluates : {F : Type 0} (s : State) (b : Block) (r : Result Evaluated (EvalRefusal F)) → IsStep s b (delta_in r) → IfOk r (λ e. e.entries.items ≡ map (λ i. entry_of i.txn) b.items) → IfOk r (λ e. IsDeltaOf b.header e.delta)
+    → IfOk r (λ e. IsStrictlySortedBy key_cmp (map (λ c. c.key) e.delta.changes)) → IfOk r (λ e. All (λ c. IfSome c.row (IsKept c.key)) e.delta.changes) → EvaluatesTo s b r
+evaluates s b (Ok e) h entries is_of ordered kept = record {
+  next = h.0;
+  stepped = h.1.stepped;
+  rows = rows_follow s h.0 b e.delta is_of h.1;
+  totals = h.1.totals;
+  is_of = is_of;
+  kept = record { ordered = ordered; kept = kept };
+  entries = entries;
+}
+evaluates s b (Err e) h entries is_of ordered kept = h
+
+-- ---- the newest rows
+
+last_in : (ds : List RoundDelta) (d : RoundDelta) → Some d ≡ last_of ds → AllByRecursion IsKeptDelta ds → IsKeptDelta d
+last_in [] d e h = absurd (let x : ◌≡◌ {A = Option RoundDelta} (Some d) None = e in cc)
+last_in (x ∷ []) d e h = subst IsKeptDelta (let y : ◌≡◌ {A = Option RoundDelta} (Some d) (Some x) = e in let z : x ≡ d = cc in z) h.0
+last_in (x ∷ y ∷ ds) d e h = last_in (y ∷ ds) d e h.1
+
+-- the last changes may be kept
+pub last_kept : (ds : List RoundDelta) (d : RoundDelta) → Some d ≡ last_of ds → All IsKeptDelta ds → IsKeptDelta d
+last_kept ds d e h = last_in ds d e (recursion_from_All IsKeptDelta ds h)
 
 -- ---- one block more
 
-whole : (s : State) (chain : Chain) (header : Header) (rows : Tree) (past : List Txn) → s.chain ≡ chain → s.header ≡ header → s.rows ≡ from_entries rows.entries → s.past ≡ past → s ≡ record { chain = chain; header = header; rows = from_entries rows.entries; past = past }
+whole : (s : State) (chain : Chain) (header : Header) (rows : StoredMap) (past : List Txn) → s.chain ≡ chain → s.header ≡ header → s.rows ≡ rows → s.past ≡ past → s ≡ record { chain = chain; header = header; rows = rows; past = past }
 whole s chain header rows past a b c d =
-    let e : record { chain = s.chain; header = s.header; rows = s.rows; past = s.past } ≡ record { chain = chain; header = header; rows = from_entries rows.entries; past = past } = cc in
+    let e : record { chain = s.chain; header = s.header; rows = s.rows; past = s.past } ≡ record { chain = chain; header = header; rows = rows; past = past } = cc in
     e
 
 mapped : (items : List Item) → map (λ i. entry_of i.txn) items ≡ map entry_of (map (λ (i : Item). i.txn) items)
 mapped [] = refl
 mapped (i ∷ items) = ap (λ es. entry_of i.txn ∷ es) (mapped items)
 
-pub kept_more : (chain : Chain) (first : Header) (rows : Tree) (accepted : List Accepted) (header : Header) (hash : List ℕ) (totals : Totals) (tail : List Entry) (a : Accepted) (hash2 : List ℕ) (totals2 : Totals) (tail2 : List Entry)
-    → IsKeeping chain first rows accepted header hash totals tail → Leads (record { origin = origin_of chain first rows; blocks = blocks_of accepted }) a.block a.rows totals2
-    → hash2 ≡ header_hash_of a.block.header → tail2 ≡ tail ++ map (λ i. entry_of i.txn) a.block.items → All (λ e. IsKept e.0 e.1.row) a.rows.entries → IsBlock a.bytes.items a.block
-    → IsKeeping chain first rows (accepted ++ a ∷ []) a.block.header hash2 totals2 tail2
-kept_more chain first rows accepted header hash totals tail a hash2 totals2 tail2 k l hashed tailed all spells =
-    let last : State = record { chain = chain; header = header; rows = from_entries (last_rows rows accepted).entries; past = k.past } in
-    let two : Ok l.last ≡ Ok last = sym l.replayed ∙ follows_replay (origin_of chain first rows) last accepted k.follows in
-    let same : l.last ≡ last = cc in
-    let stepped : step last a.block ≡ Ok l.next = subst (λ s. step s a.block ≡ Ok l.next) same l.stepped in
-    let x = after_step last l.next a.block stepped in
-    let long : length (accepted ++ a ∷ []) ≡ suc (length accepted) = omega (arith, length-append accepted (a ∷ [])) in
-    let end : last_rows rows (accepted ++ a ∷ []) ≡ a.rows = ap (rows_at rows (accepted ++ a ∷ [])) long ∙ rows_last rows accepted a in
-    let end_rows : l.next.rows ≡ from_entries (last_rows rows (accepted ++ a ∷ [])).entries = l.rows_are ∙ ap (λ (t : Tree). from_entries t.entries) (sym end) in
-    let counted : totals2 ≡ counts a.block.header.level (bare (from_entries (last_rows rows (accepted ++ a ∷ [])).entries)) = l.totals_are ∙ ap₂ (λ (h : Header) (m : FinMap key_cmp Stored). counts h.level (bare m)) x.0 end_rows in
-    let next : l.next ≡ record { chain = chain; header = a.block.header; rows = from_entries (last_rows rows (accepted ++ a ∷ [])).entries; past = k.past ++ map (λ i. i.txn) a.block.items } = whole l.next chain a.block.header (last_rows rows (accepted ++ a ∷ [])) (k.past ++ map (λ i. i.txn) a.block.items) x.1 x.0 end_rows x.2 in
+ok_is : (s t : State) → ◌≡◌ {A = Result State Refusal} (Ok s) (Ok t) → s ≡ t
+ok_is s t e = cc
+
+-- with what a step from the last state gives
+more : (chain : Chain) (first : Header) (base newest : StoredMap) (deltas : Queue) (kept : List KeptBlock) (header : Header) (hash : List ℕ) (totals : Totals) (tail : List Entry) (next : KeptBlock) (e : Evaluated)
+    → IsKeeping chain first base newest deltas kept header hash totals tail → newest ≡ rows_after deltas.deltas base → Leads (record { origin = origin_of chain first base; blocks = blocks_of kept }) next.block e → IsBlock next.bytes.items next.block
+    → IsKeeping chain first base newest (record deltas { deltas = deltas.deltas ++ e.delta ∷ [] }) (kept ++ next ∷ []) e.delta.header e.delta.hash e.delta.totals (tail ++ map (λ i. entry_of i.txn) next.block.items)
+more chain first base newest deltas kept header hash totals tail next e k newest_is l spells =
+    let b = next.block in
+    let d = e.delta in
+    let x : IsEvaluated l.last b e = l.evaluated in
+    let o = origin_of chain first base in
+    let last : State = record { chain = chain; header = header; rows = rows_after deltas.deltas base; past = k.past } in
+    let same : l.last ≡ last = ok_is l.last last (sym l.replayed ∙ follows_replay o last (blocks_of kept) deltas.deltas k.follows) in
+    let stepped : step last b ≡ Ok x.next = subst (λ s. step s b ≡ Ok x.next) same x.stepped in
+    let put : x.next.rows ≡ after_delta d (rows_after deltas.deltas base) = x.rows ∙ ap (λ (s : State). after_delta d s.rows) same in
+    let then : rows_after (deltas.deltas ++ d ∷ []) base ≡ after_delta d (rows_after deltas.deltas base) = rows_then deltas.deltas (d ∷ []) base in
+    let rows : x.next.rows ≡ rows_after (deltas.deltas ++ d ∷ []) base = put ∙ sym then in
+    let after = after_step last x.next b stepped in
+    let head : x.next.header ≡ d.header = after.0 ∙ sym x.is_of.header in
+    let past = k.past ++ map (λ i. i.txn) b.items in
+    let now = whole x.next chain d.header (rows_after (deltas.deltas ++ d ∷ []) base) past after.1 head rows after.2 in
+    let blocks : blocks_of (kept ++ next ∷ []) ≡ blocks_of kept ++ b ∷ [] = map-append (λ (y : KeptBlock). y.block) kept (next ∷ []) in
+    let led : Follows o (blocks_of kept ++ b ∷ []) (deltas.deltas ++ d ∷ []) x.next = follows_push o last x.next (blocks_of kept) deltas.deltas b d k.follows stepped put x.is_of.header in
     record {
-      past = k.past ++ map (λ i. i.txn) a.block.items;
-      follows = subst (Follows (origin_of chain first rows) (accepted ++ a ∷ [])) next (follows_push (origin_of chain first rows) last l.next accepted a k.follows stepped l.rows_are);
-      hash_is = hashed;
-      tail_is = tailed ∙ ap (λ es. es ++ map (λ i. entry_of i.txn) a.block.items) k.tail_is ∙ ap (λ es. map entry_of k.past ++ es) (mapped a.block.items) ∙ sym (map-append entry_of k.past (map (λ i. i.txn) a.block.items));
+      past = past;
+      follows = subst (λ (bs : List Block). Follows o bs (deltas.deltas ++ d ∷ []) (record { chain = chain; header = d.header; rows = rows_after (deltas.deltas ++ d ∷ []) base; past = past })) (sym blocks) (subst (Follows o (blocks_of kept ++ b ∷ []) (deltas.deltas ++ d ∷ [])) now led);
+      begins = k.begins;
+      level = k.level;
+      changes = All-push IsKeptDelta deltas.deltas d k.changes x.kept;
+      newest_is = ap (λ y. caught_up y newest) (last_pushed deltas.deltas d) ∙ ap (after_delta d) newest_is ∙ sym then;
+      hash_is = x.is_of.hash ∙ ap header_hash_of (sym x.is_of.header);
+      tail_is = ap (λ es. es ++ map (λ i. entry_of i.txn) b.items) k.tail_is ∙ ap (λ es. map entry_of k.past ++ es) (mapped b.items) ∙ sym (map-append entry_of k.past (map (λ i. i.txn) b.items));
       sound = k.sound;
-      totals_are = counted;
-      kept = kept_push rows accepted a k.kept all;
-      spelled = All-push (λ (x : Accepted). IsBlock x.bytes.items x.block) accepted a k.spelled spells;
+      totals_are = x.totals ∙ ap₂ (λ (h : Header) (m : StoredMap). counts h.level (bare m)) head rows;
+      spelled = All-push (λ (y : KeptBlock). IsBlock y.bytes.items y.block) kept next k.spelled spells;
     }
+
+pub kept_more : (chain : Chain) (first : Header) (base newest : StoredMap) (deltas deltas2 : Queue) (kept kept2 : List KeptBlock) (header header2 : Header) (hash : List ℕ) (totals : Totals) (tail tail2 : List Entry) (next : KeptBlock) (e : Evaluated)
+    → IsKeeping chain first base newest deltas kept header hash totals tail → newest ≡ rows_after deltas.deltas base → Leads (record { origin = origin_of chain first base; blocks = blocks_of kept }) next.block e → IsBlock next.bytes.items next.block
+    → deltas2 ≡ record deltas { deltas = deltas.deltas ++ e.delta ∷ [] } → kept2 ≡ kept ++ next ∷ [] → header2 ≡ e.delta.header → tail2 ≡ tail ++ map (λ i. entry_of i.txn) next.block.items
+    → IsKeeping chain first base newest deltas2 kept2 header2 e.delta.hash e.delta.totals tail2
+kept_more chain first base newest deltas deltas2 kept kept2 header header2 hash totals tail tail2 next e k newest_is l spells d_is kept_is header_is tail_is =
+    let x = more chain first base newest deltas kept header hash totals tail next e k newest_is l spells in
+    let x1 = subst (λ (q : Queue). IsKeeping chain first base newest q (kept ++ next ∷ []) e.delta.header e.delta.hash e.delta.totals (tail ++ map (λ i. entry_of i.txn) next.block.items)) (sym d_is) x in
+    let x2 = subst (λ (ks : List KeptBlock). IsKeeping chain first base newest deltas2 ks e.delta.header e.delta.hash e.delta.totals (tail ++ map (λ i. entry_of i.txn) next.block.items)) (sym kept_is) x1 in
+    let x3 = subst (λ (h : Header). IsKeeping chain first base newest deltas2 kept2 h e.delta.hash e.delta.totals (tail ++ map (λ i. entry_of i.txn) next.block.items)) (sym header_is) x2 in
+    subst (λ (es : List Entry). IsKeeping chain first base newest deltas2 kept2 header2 e.delta.hash e.delta.totals es) (sym tail_is) x3

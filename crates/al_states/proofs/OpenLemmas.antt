@@ -1,55 +1,64 @@
 -- The states of a genesis.
-use Rattle.std.proofs.Common.{◌≤◌, arith, ◌≡◌, ℕ, List, [], All, refl, ap, sym, subst, ◌∙◌, Err}
+use Rattle.std.proofs.Common.{◌≤◌, arith, ◌≡◌, ℕ, List, [], refl, ap, sym, subst, ◌∙◌, Err}
 use Rattle.std.proofs.lemmas.List.Elements.{All-nil}
 use Rattle.al_block.specs.Block.{IsBlock}
-use Rattle.std.specs.FinMap.{FinMap, from_entries}
-use Rattle.al_base.specs.Keys.{key_cmp}
 use Rattle.al_block.specs.declared.block.Block.{Block}
-use Rattle.al_rows.specs.declared.stored.Stored.{Stored}
+use Rattle.al_deltas.specs.Queue.{IsKeptDelta, Queue, StoredMap}
 use Rattle.al_eval.specs.declared.tail.Entry.{Entry}
-use Rattle.al_states.specs.declared.states.Accepted.{Accepted}
+use Rattle.al_states.specs.declared.keeping.KeptBlock.{KeptBlock}
 use Rattle.al_states.specs.Held.{Held}
 use Rattle.al_states.specs.Opening.{Opens, IsRefusedGenesis, fault_of}
 use Rattle.al_txn.specs.declared.chain.Chain.{Chain}
 use Rattle.al_block.specs.declared.header.Header.{Header}
 use Rattle.al_block.specs.Hashes.{header_hash_of}
-use Rattle.al_rows.specs.Rows.{IsKept}
+use Rattle.al_moves.specs.Money.{counts}
 use Rattle.al_genesis.specs.declared.genesis.GenesisFault.{GenesisFault}
 use Rattle.al_genesis.specs.declared.genesis.GenesisFault.TheVariants as faults
 use Rattle.al_genesis.specs.Genesis.{GenesisMeansUnless, number_of}
 use Rattle.al_eval.specs.State.{State, counts_in}
 use Rattle.al_eval.specs.Sound.{Sound}
 use Rattle.al_rewards.specs.declared.totals.Totals.{Totals}
-use Rattle.al_states.specs.Keeping.{Tree, IsKeeping, origin_of, blocks_of}
+use Rattle.al_states.specs.Keeping.{IsKeeping, origin_of, blocks_of}
 
-pub kept_first : (chain : Chain) (first header : Header) (rows : Tree) (hash : List ℕ) (totals : Totals) → first ≡ header → hash ≡ header_hash_of first → All (λ e. IsKept e.0 e.1.row) rows.entries → Sound (origin_of chain first rows) → totals ≡ counts_in (origin_of chain header rows)
-    → IsKeeping chain first rows [] header hash totals []
-kept_first chain first header rows hash totals e h kept sound counted = record {
+level_counted : (s : State) (totals : Totals) → totals ≡ counts_in s → totals.level ≡ s.header.level
+unfolding counts
+level_counted s totals e = ap (λ (t : Totals). t.level) e
+
+pub kept_first : (chain : Chain) (first header : Header) (rows : StoredMap) (hash : List ℕ) (totals : Totals) → first ≡ header → hash ≡ header_hash_of first → Sound (origin_of chain header rows) → totals ≡ counts_in (origin_of chain header rows)
+    → IsKeeping chain first rows rows (record { base = 0; deltas = []; totals = totals }) [] header hash totals []
+kept_first chain first header rows hash totals e h sound counted = record {
   past = [];
-  follows = ap (λ (x : Header). let s : State = record { chain = chain; header = x; rows = from_entries rows.entries; past = [] } in s) e;
+  follows = ap (λ (x : Header). origin_of chain x rows) e;
+  begins = refl;
+  level = level_counted (origin_of chain header rows) totals counted ∙ ap (λ (x : Header). x.level) (sym e);
+  changes = All-nil IsKeptDelta;
+  newest_is = refl;
   hash_is = h ∙ ap header_hash_of e;
   tail_is = refl;
-  sound = sound;
+  sound = subst (λ (x : Header). Sound (origin_of chain x rows)) (sym e) sound;
   totals_are = counted;
-  kept = kept;
-  spelled = All-nil (λ (a : Accepted). IsBlock a.bytes.items a.block);
+  spelled = All-nil (λ (k : KeptBlock). IsBlock k.bytes.items k.block);
 }
 
-pub kept_begun : (chain : Chain) (first header : Header) (rows : Tree) (hash : List ℕ) (totals : Totals) (accepted : List Accepted) (tail : List Entry) → accepted ≡ [] → tail ≡ [] → first ≡ header → hash ≡ header_hash_of first → All (λ e. IsKept e.0 e.1.row) rows.entries
-    → Sound (origin_of chain header rows) → totals ≡ counts_in (origin_of chain header rows) → IsKeeping chain first rows accepted header hash totals tail
-kept_begun chain first header rows hash totals accepted tail a t e h kept sound counted =
-    let x = kept_first chain first header rows hash totals e h kept (subst (λ (f : Header). Sound (origin_of chain f rows)) (sym e) sound) counted in
-    subst (λ (ts : List Entry). IsKeeping chain first rows accepted header hash totals ts) (sym t) (subst (λ (xs : List Accepted). IsKeeping chain first rows xs header hash totals []) (sym a) x)
+pub kept_begun : (chain : Chain) (first header : Header) (base newest rows : StoredMap) (deltas : Queue) (hash : List ℕ) (totals : Totals) (kept : List KeptBlock) (tail : List Entry) → base ≡ rows → newest ≡ rows → deltas ≡ record { base = 0; deltas = []; totals = totals } → kept ≡ [] → tail ≡ []
+    → first ≡ header → hash ≡ header_hash_of first → Sound (origin_of chain header rows) → totals ≡ counts_in (origin_of chain header rows) → IsKeeping chain first base newest deltas kept header hash totals tail
+kept_begun chain first header base newest rows deltas hash totals kept tail b n d a t e h sound counted =
+    let x = kept_first chain first header rows hash totals e h sound counted in
+    let x1 = subst (λ (q : Queue). IsKeeping chain first rows rows q [] header hash totals []) (sym d) x in
+    let x2 = subst (λ (m : StoredMap). IsKeeping chain first rows m deltas [] header hash totals []) (sym n) x1 in
+    let x3 = subst (λ (m : StoredMap). IsKeeping chain first m newest deltas [] header hash totals []) (sym b) x2 in
+    let x4 = subst (λ (ks : List KeptBlock). IsKeeping chain first base newest deltas ks header hash totals []) (sym a) x3 in
+    subst (λ (ts : List Entry). IsKeeping chain first base newest deltas kept header hash totals ts) (sym t) x4
 
 -- what they hold
 abbrev held_of : State → List Block → Held
 held_of o bs = record { origin = o; blocks = bs }
 
-pub held_begun : (chain : Chain) (first header : Header) (rows : Tree) (accepted : List Accepted) (all : FinMap key_cmp Stored) → first ≡ header → from_entries rows.entries ≡ all → accepted ≡ [] → held_of (origin_of chain first rows) (blocks_of accepted) ≡ held_of (record { chain = chain; header = header; rows = all; past = [] }) []
-held_begun chain first header rows accepted all e f a =
-    ap (λ (xs : List Accepted). held_of (origin_of chain first rows) (blocks_of xs)) a
-    ∙ ap (λ (h : Header). held_of (record { chain = chain; header = h; rows = from_entries rows.entries; past = [] }) []) e
-    ∙ ap (λ (m : FinMap key_cmp Stored). held_of (record { chain = chain; header = header; rows = m; past = [] }) []) f
+pub held_begun : (chain : Chain) (first header : Header) (base rows : StoredMap) (kept : List KeptBlock) → first ≡ header → base ≡ rows → kept ≡ [] → held_of (origin_of chain first base) (blocks_of kept) ≡ held_of (record { chain = chain; header = header; rows = rows; past = [] }) []
+held_begun chain first header base rows kept e f a =
+    ap (λ (ks : List KeptBlock). held_of (origin_of chain first base) (blocks_of ks)) a
+    ∙ ap (λ (h : Header). held_of (origin_of chain h base) []) e
+    ∙ ap (λ (m : StoredMap). held_of (origin_of chain header m) []) f
 
 -- a fault of the reader is shown by its number
 pub fault_opens : (input : List ℕ) (f : GenesisFault) → GenesisMeansUnless input (Err f) → Opens input (Err (fault_of f))

@@ -9,30 +9,28 @@ use Rattle.al_record.proofs.Engine.{first_none}
 use Rattle.al_record.proofs.Laws.{record_shows}
 use Rattle.al_block.specs.declared.block.Block.{Block}
 use Rattle.al_block.specs.declared.header.Header.{Header}
+use Rattle.al_deltas.specs.declared.delta.RoundDelta.{RoundDelta}
 use Rattle.al_block.specs.Block.{IsBlock, block, block_fields}
 use Rattle.al_block.specs.Header.{header, header_fields}
 use Rattle.al_moves.specs.Moves.{then_do}
 use Rattle.al_eval.specs.Steps.{Refusal}
 use Rattle.al_eval.specs.State.{State, step, replay}
-use Rattle.al_eval.specs.Sound.{Sound, IsSoundBefore}
+use Rattle.al_eval.specs.Sound.{Sound}
 use Rattle.al_eval.proofs.Sounds.{step_sound, step_keeps}
-use Rattle.al_states.specs.declared.states.Accepted.{Accepted}
 use Rattle.al_states.specs.declared.states.States.{States}
 use Rattle.al_states.specs.Held.{KeepsMoney, money_in}
-use Rattle.al_states.specs.Keeping.{Tree, Follows, IsStates, held, last_rows}
+use Rattle.al_states.specs.Keeping.{Follows, IsStates, held}
+use Rattle.al_states.proofs.KeepLemmas.{last_state}
 
-follows_sound : (o last : State) (more : List Accepted) → Sound o → Follows o more last → Sound last
-follows_sound o last [] h e = subst Sound e h
-follows_sound o last (a ∷ more) h (n, stepped, rows, rest) = follows_sound n last more (step_sound o n a.block h stepped) rest
+follows_sound : (o last : State) (bs : List Block) (ds : List RoundDelta) → Sound o → Follows o bs ds last → Sound last
+follows_sound o last [] [] h e = subst Sound e h
+follows_sound o last [] (d ∷ ds) h f = absurd f
+follows_sound o last (b ∷ bs) [] h f = absurd f
+follows_sound o last (b ∷ bs) (d ∷ ds) h (n, stepped, rows, head, rest) = follows_sound n last bs ds (step_sound o n b h stepped) rest
 
--- what the next step begins with
-pub before_sound : (s : States) (k : IsStates s) (rows : Tree) → rows ≡ last_rows s.rows s.accepted.items → IsSoundBefore s.before rows k.past
-before_sound s k rows led =
-    let x : IsSoundBefore s.before (last_rows s.rows s.accepted.items) k.past = record {
-      sound = follows_sound (held s).origin _ s.accepted.items k.sound k.follows;
-      totals = k.totals_are;
-    } in
-    subst (λ (t : Tree). IsSoundBefore s.before t k.past) (sym led) x
+-- the state that the next step begins with is sound
+pub last_sound : (s : States) (k : IsStates s) → Sound (last_state s k)
+last_sound s k = follows_sound (held s).origin (last_state s k) (held s).blocks s.deltas.deltas k.sound k.follows
 
 then_replayed : (due : Result State Refusal) (bs : List Block) (t : State) → then_do due (λ s. replay s bs) ≡ Ok t → (s : State) × (due ≡ Ok s) × (replay s bs ≡ Ok t)
 then_replayed (Ok s) bs t e = (s, refl, e)

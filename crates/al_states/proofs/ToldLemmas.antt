@@ -1,38 +1,49 @@
 -- The answers of the states.
-use Rattle.std.proofs.Common.{◌≡◌, ◌≤◌, ◌<◌, ◌⊎◌, inl, inr, ◌-◌, ℕ, suc, Bool, true, false, not, if◌then◌else◌, nat_lt, get_or, List, [], ◌∷◌, ◌++◌, length, take, refl, sym, ap, ◌∙◌, arith, subst, length-append, Option, Some, Result, Ok, Err}
-use Rattle.std.proofs.lemmas.List.{length-map, take_all}
+use Rattle.std.proofs.Common.{◌≡◌, ◌⊎◌, inl, inr, ℕ, suc, Bool, true, false, not, if◌then◌else◌, nat_lt, List, [], ◌∷◌, ◌++◌, length, take, refl, sym, ap, ap₂, ◌∙◌, arith, subst, length-append, unwrap_or, Option, Some, None, IfOk, IfSome, option_map, Result, Ok, Err}
+use Rattle.std.proofs.lemmas.List.{take_all}
 use Rattle.std.proofs.lemmas.Bool.{le-ltb, lt-ltb}
-use Rattle.std.proofs.lemmas.Slice.Eq.{bytes_eq-Decides}
-use Rattle.std.specs.BTreeMap as tree
+use Rattle.std.specs.Option.{option_copied}
 use Rattle.al_base.specs.declared.address.Address.{Address}
 use Rattle.al_base.specs.declared.key.Key.TheVariants as keys
-use Rattle.al_base.specs.Keys.{key_cmp}
+use Rattle.al_rows.specs.declared.row.Row.{Row}
+use Rattle.al_rows.specs.declared.row.Row.TheVariants as rows
 use Rattle.al_rows.specs.declared.stored.Stored.{Stored}
+use Rattle.al_rows.specs.declared.view.Never.{Never}
+use Rattle.al_rows.specs.Rows.{IsKept, same_bytes}
 use Rattle.al_block.specs.declared.block.Block.{Block}
 use Rattle.al_block.specs.declared.decoding.BlockFault.{BlockFault}
 use Rattle.al_block.specs.declared.decoding.BlockFault.TheVariants as faults
 use Rattle.al_block.specs.Block.{IsBlock, BlockMeansUnless}
-use Rattle.al_eval.specs.State.{State, Steps, step, replay, row_at}
-use Rattle.al_eval.specs.Steps.{Refusal}
-use Rattle.al_eval.specs.Sound.{begun}
-use Rattle.al_eval.specs.declared.before.EvalRefusal.{EvalRefusal}
-use Rattle.al_eval.specs.declared.before.EvalRefusal.TheVariants as refusals
-use Rattle.std.specs.FinMap.{from_entries}
 use Rattle.al_block.specs.Hashes.{header_hash_of}
-use Rattle.al_rows.specs.Rows.{same_bytes}
-use Rattle.al_http.specs.Answers.{memory_answer}
+use Rattle.al_eval.specs.State.{State, step, row_at, level_at}
+use Rattle.al_eval.specs.Refusals.{refusal_of}
+use Rattle.al_eval.specs.Sound.{IsStepRefusal}
+use Rattle.al_eval.specs.declared.before.EvalRefusal.{EvalRefusal}
+use Rattle.al_eval.specs.declared.before.EvalRefusal.TheVariants as evals
+use Rattle.al_http.specs.Answers.{IsSound, memory_answer}
 use Rattle.al_http.specs.declared.answer.Answer.{Answer}
+use Rattle.al_http.specs.declared.answer.Answer.TheVariants as answers
+use Rattle.al_http.specs.declared.answer.ErrorName.TheVariants as errors
+use Rattle.al_http.specs.Answers.{nothing}
 use Rattle.al_http.specs.declared.asking.Request.{Request}
 use Rattle.al_http.specs.declared.asking.Request.TheVariants as asks
 use Rattle.al_msgpack.specs.declared.fault.DecodeFault.TheVariants as places
-use Rattle.al_states.specs.declared.states.Told.{Told}
+use Rattle.al_states.specs.declared.told.Told.{Told}
 use Rattle.al_states.specs.declared.states.States.{States}
-use Rattle.al_states.specs.declared.states.Accepted.{Accepted}
+use Rattle.al_states.specs.Keeping.{IsStates, held}
+use Rattle.al_states.proofs.KeepLemmas.{last_state, led_to_last}
+use Rattle.std.proofs.lemmas.Slice.Eq.{bytes_eq-Decides}
+use Rattle.al_states.specs.declared.looking.RowAnswer.{RowAnswer}
+use Rattle.al_states.specs.declared.looking.LookRefusal.{LookRefusal}
+use Rattle.al_states.specs.declared.looking.LookRefusal.TheVariants as looks
+use Rattle.al_states.specs.declared.accepting.Accepted.{Accepted}
+use Rattle.al_states.specs.declared.accepting.AcceptRefusal.{AcceptRefusal}
+use Rattle.al_states.specs.declared.accepting.AcceptRefusal.TheVariants as refusals
+use Rattle.al_states.specs.Accepting.{Accepts, IsBroken, IsNext, IsRefused, accept_answer, eval_answer, outer_fault, outer_refusal, refusal_answer}
 use Rattle.al_states.specs.Built.{is_built}
 use Rattle.al_states.specs.Held.{Held}
-use Rattle.al_states.specs.Keeping.{Tree, IsStates, held, header_at, rows_at, last_rows}
-use Rattle.al_states.proofs.KeepLemmas.{row_is, level_is, before, block_of_at, one_spelling, follows_replay}
-use Rattle.al_states.specs.Replies.{account_answer, looked_at, too_new, Replies, Posts, IsOutside, IsRepeated, IsBlockOf, IsAnswered, ShowsRefusal, judged, refused, taken, fork, wrong_prev, not_built, undecodable}
+use Rattle.al_states.specs.Looking.{Looks, look_answer, row_answer}
+use Rattle.al_states.specs.Replies.{account_answer, account_of, looked, too_new, wrong_round, Replies, Posts, IsRepeated, IsAnswered, judged, refused, taken, fork, wrong_prev, not_built, undecodable}
 
 when_false : {A : Type 0} (b : Bool) (x y : A) → b ≡ false → (if b then x else y) ≡ y
 when_false true x y e = absurd cc
@@ -44,17 +55,39 @@ when_true false x y e = absurd cc
 
 -- ---- look-ups
 
-pub looked_found : (s : States) (who : Address) (n level : ℕ) (o : Option Stored) → IsStates s → n ≤ length s.accepted.items → level ≡ (header_at s.first s.accepted.items n).level → o ≡ tree.get key_cmp (rows_at s.rows s.accepted.items n) (keys.Account who)
-    → account_answer (length (held s).blocks) n level o ≡ looked_at (held s).origin (held s).blocks who n
-looked_found s who n level o k fits leveled found =
-    let long : length (held s).blocks ≡ length s.accepted.items = length-map s.accepted.items (λ (a : Accepted). a.block) in
-    let late : nat_lt (length (held s).blocks) n ≡ false = le-ltb (length (held s).blocks) n (omega (arith, long, fits)) in
-    ap (account_answer (length (held s).blocks) n level) (found ∙ sym (row_is s n (keys.Account who) k fits))
-    ∙ ap (λ l. account_answer (length (held s).blocks) n l (row_at (held s).origin (held s).blocks n (keys.Account who))) (leveled ∙ sym (level_is s n k fits))
-    ∙ sym (when_false (nat_lt (length (held s).blocks) n) _ _ late)
+shown : (front round level : ℕ) (o : Option Stored) → account_answer front round level o ≡ row_answer front round level (option_map (λ s. s.row) o)
+shown front round level None = refl
+shown front round level (Some s) = refl
 
-pub looked_late : (o : State) (blocks : List Block) (who : Address) (n : ℕ) → length blocks < n → too_new (length blocks) ≡ looked_at o blocks who n
-looked_late o blocks who n late = sym (when_true (nat_lt (length blocks) n) _ _ (lt-ltb (length blocks) n late))
+alike : (f g r s l m : ℕ) (o p : Option Row) → f ≡ g → r ≡ s → l ≡ m → o ≡ p → row_answer f r l o ≡ row_answer g s m p
+alike f g r s l m o p a b c d = cc
+
+-- what a look-up of an account is answered is the account after replaying to the round
+pub looks_answer : (h : Held) (who : Address) (round : Option ℕ) (r : Result RowAnswer LookRefusal) → Looks h (keys.Account who) round r → look_answer r ≡ looked h.origin h.blocks who round
+looks_answer h who round (Ok a) x =
+    let n = unwrap_or round (length h.blocks) in
+    let o = row_at h.origin h.blocks n (keys.Account who) in
+    alike a.front (length h.blocks) a.round n a.level (level_at h.origin h.blocks n) (option_copied a.row) (option_map (λ s. s.row) o) x.front x.round_is x.level x.row
+    ∙ sym (shown (length h.blocks) n (level_at h.origin h.blocks n) o)
+    ∙ sym (when_false (nat_lt (length h.blocks) n) _ _ (le-ltb (length h.blocks) n x.within))
+looks_answer h who round (Err (looks.TooNew front)) x =
+    let n = unwrap_or round (length h.blocks) in
+    ap too_new x.0 ∙ sym (when_true (nat_lt (length h.blocks) n) _ _ (lt-ltb (length h.blocks) n x.1))
+
+account_sound : (front round level : ℕ) (who : Address) (x : Row) → IsKept (keys.Account who) x → IsSound (account_of front round level x)
+account_sound front round level who (rows.Account r) h = h.0.1
+account_sound front round level who (rows.Asset r) h = tt
+account_sound front round level who (rows.App r) h = tt
+account_sound front round level who (rows.Box r) h = tt
+
+row_sound : (front round level : ℕ) (who : Address) (o : Option Row) → IfSome o (IsKept (keys.Account who)) → IsSound (row_answer front round level o)
+row_sound front round level who None h = tt
+row_sound front round level who (Some x) h = account_sound front round level who x h
+
+-- a kept row is shown with its counts in their range
+pub looks_sound : (who : Address) (r : Result RowAnswer LookRefusal) → IfOk r (λ a. IfSome (option_copied a.row) (IsKept (keys.Account who))) → IsSound (look_answer r)
+looks_sound who (Ok a) h = row_sound a.front a.round a.level who (option_copied a.row) h
+looks_sound who (Err (looks.TooNew front)) h = tt
 
 -- ---- answers
 
@@ -74,64 +107,7 @@ answered_same h ask body a t is reply =
     } in
     subst (IsAnswered h h ask body) (sym is) x
 
--- bytes that spell no block
-pub fault_posts : (o : State) (blocks : List Block) (body : List ℕ) (f : BlockFault) → BlockMeansUnless body (Err f) → Posts o blocks body (undecodable f) ⊎ (undecodable f ≡ memory_answer)
-fault_posts o blocks body (faults.Decode places.Memory) x = inr refl
-fault_posts o blocks body (faults.Decode f) x = inl (inl (faults.Decode f, x, refl))
-fault_posts o blocks body (faults.Field name) x = inl (inl (faults.Field name, x, refl))
-fault_posts o blocks body (faults.Range name) x = inl (inl (faults.Range name, x, refl))
-fault_posts o blocks body faults.Memory x = inr refl
-
--- a block whose round is kept
-pub repeat_posts : (o : State) (blocks : List Block) (body : List ℕ) (b : Block) (a : Answer) → IsBlock body b → IsRepeated blocks body b.header.round a ⊎ (a ≡ memory_answer) → Posts o blocks body a ⊎ (a ≡ memory_answer)
-repeat_posts o blocks body b a is (inl x) = inl (inr (b, is, inr (inl x)))
-repeat_posts o blocks body b a is (inr none) = inr none
-
-pub outside_posts : (o : State) (blocks : List Block) (body : List ℕ) (b : Block) (a : Answer) → IsBlock body b → IsOutside blocks b a → Posts o blocks body a ⊎ (a ≡ memory_answer)
-outside_posts o blocks body b a is x = inl (inr (b, is, inl x))
-
-pub judged_posts : (o s : State) (blocks : List Block) (body : List ℕ) (b : Block) (a : Answer) → IsBlock body b → b.header.round ≡ suc (length blocks) → replay o blocks ≡ Ok s → judged (length blocks) s b ≡ Some a → Posts o blocks body a ⊎ (a ≡ memory_answer)
-judged_posts o s blocks body b a is round led due = inl (inr (b, is, inr (inr (round, (s, led, due)))))
-
--- ---- a block of a round that a block is kept of
-
-kept_block : (s : States) (round : ℕ) (kept : Accepted) → 0 < round → round ≤ length (held s).blocks → kept ≡ get_or s.accepted.items (round - 1) kept → IsBlockOf (held s).blocks round kept.block
-kept_block s round kept some fits at =
-    let short : round - 1 < length s.accepted.items = omega (arith, some, fits, length-map s.accepted.items (λ (a : Accepted). a.block)) in
-    let first : IsBlockOf (held s).blocks round (get_or s.accepted.items (round - 1) kept).block = subst (λ r. IsBlockOf (held s).blocks r (get_or s.accepted.items (round - 1) kept).block) (before round some) (block_of_at s.accepted.items (round - 1) kept short) in
-    subst (λ (a : Accepted). IsBlockOf (held s).blocks round a.block) (sym at) first
-
-kept_spelled : (s : States) (round : ℕ) (kept : Accepted) → IsStates s → 0 < round → round ≤ length (held s).blocks → kept ≡ get_or s.accepted.items (round - 1) kept → IsBlock kept.bytes.items kept.block
-kept_spelled s round kept k some fits at =
-    let short : round - 1 < length s.accepted.items = omega (arith, some, fits, length-map s.accepted.items (λ (a : Accepted). a.block)) in
-    subst (λ (a : Accepted). IsBlock a.bytes.items a.block) (sym at) (k.spelled (round - 1) kept short)
-
--- the same bytes
-pub repeat_is : (s : States) (body bytes : List ℕ) (round : ℕ) (kept : Accepted) (a : Answer) → IsStates s → 0 < round → round ≤ length (held s).blocks → kept ≡ get_or s.accepted.items (round - 1) kept → bytes ≡ kept.bytes.items → same_bytes bytes body ≡ true → a ≡ taken (length (held s).blocks) round
-    → IsRepeated (held s).blocks body round a
-repeat_is s body bytes round kept a k some fits at seen same is =
-    let one : kept.bytes.items ≡ body = sym seen ∙ (bytes_eq-Decides bytes body).0 same in
-    (kept.block, kept_block s round kept some fits at, inl (subst (λ zs. IsBlock zs kept.block) one (kept_spelled s round kept k some fits at), is))
-
--- other bytes
-pub fork_is : (s : States) (body bytes : List ℕ) (round : ℕ) (kept : Accepted) (a : Answer) → IsStates s → 0 < round → round ≤ length (held s).blocks → kept ≡ get_or s.accepted.items (round - 1) kept → bytes ≡ kept.bytes.items → same_bytes bytes body ≡ false → a ≡ fork (length (held s).blocks) (header_hash_of kept.block.header)
-    → IsRepeated (held s).blocks body round a
-fork_is s body bytes round kept a k some fits at seen differ is = (kept.block, kept_block s round kept some fits at, inr (other, is))
-  where
-    other : IsBlock body kept.block → ⊥
-    other x =
-        let one : bytes ≡ body = seen ∙ one_spelling kept.bytes.items body kept.block (kept_spelled s round kept k some fits at) x in
-        let e : same_bytes bytes body ≡ true = ap (same_bytes bytes) (sym one) ∙ (bytes_eq-Decides bytes bytes).1 refl in
-        absurd cc
-
--- ---- a block of the next round
-
--- the state after the blocks that are held
-abbrev pub last_of : (s : States) → IsStates s → State
-last_of s k = record { chain = s.before.chain; header = s.before.header; rows = from_entries (last_rows s.rows s.accepted.items).entries; past = k.past }
-
-pub led_to_last : (s : States) (k : IsStates s) → replay (held s).origin (held s).blocks ≡ Ok (last_of s k)
-led_to_last s k = follows_replay (held s).origin (last_of s k) s.accepted.items k.follows
+-- ---- posted bytes
 
 judged_prev : (front : ℕ) (s : State) (b : Block) → same_bytes b.header.prev (header_hash_of s.header) ≡ false → judged front s b ≡ Some (wrong_prev front (header_hash_of s.header))
 judged_prev front s b e = when_false (same_bytes b.header.prev (header_hash_of s.header)) _ _ e
@@ -142,49 +118,33 @@ judged_odd front s b e f = when_true (same_bytes b.header.prev (header_hash_of s
 judged_step : (front : ℕ) (s : State) (b : Block) → same_bytes b.header.prev (header_hash_of s.header) ≡ true → is_built b ≡ true → judged front s b ≡ refused front (step s b)
 judged_step front s b e f = when_true (same_bytes b.header.prev (header_hash_of s.header)) _ _ e ∙ when_true (is_built b) _ _ f
 
-next_posts : (s : States) (k : IsStates s) (body : List ℕ) (b : Block) (a : Answer) → IsBlock body b → b.header.round ≡ suc (length (held s).blocks) → judged (length (held s).blocks) (last_of s k) b ≡ Some a → Posts (held s).origin (held s).blocks body a ⊎ (a ≡ memory_answer)
-next_posts s k body b a is round due = judged_posts (held s).origin (last_of s k) (held s).blocks body b a is round (led_to_last s k) due
+-- the answer to a block of the next round
+next_posts : (o s : State) (blocks : List Block) (body : List ℕ) (b : Block) (continues : Bool) (a : Answer) → IsBlock body b → IsNext o blocks b continues s → judged (length blocks) s b ≡ Some a → Posts o blocks body a ⊎ (a ≡ memory_answer)
+next_posts o s blocks body b continues a is next due = inl (inr (b, is, inr (inr (next.round, (s, next.replayed, due)))))
 
-flipped : (b : Bool) (c : Bool) → c ≡ not b → b ≡ not c
-flipped true c e = ap not (sym e)
-flipped false c e = ap not (sym e)
+-- the refusal by the step
+eval_posts : (o s : State) (blocks : List Block) (body : List ℕ) (b : Block) (e : EvalRefusal Never) → IsBlock body b → IsNext o blocks b true s → is_built b ≡ true → IsBroken s b (refusal_of e)
+    → Posts o blocks body (eval_answer (length blocks) e) ⊎ (eval_answer (length blocks) e ≡ memory_answer)
+eval_posts o s blocks body b (evals.Broken place rule) is next built due = next_posts o s blocks body b true _ is next (judged_step (length blocks) s b next.prev built ∙ ap (refused (length blocks)) due.0)
+eval_posts o s blocks body b (evals.Header field) is next built due = next_posts o s blocks body b true _ is next (judged_step (length blocks) s b next.prev built ∙ ap (refused (length blocks)) due.0)
+eval_posts o s blocks body b (evals.PoolShort pool owed) is next built due = next_posts o s blocks body b true _ is next (judged_step (length blocks) s b next.prev built ∙ ap (refused (length blocks)) due.0)
+eval_posts o s blocks body b (evals.View never) is next built due = absurd due
+eval_posts o s blocks body b evals.Memory is next built due = absurd due
 
--- it does not continue the last block
-pub prev_posts : (s : States) (k : IsStates s) (body : List ℕ) (b : Block) (front : ℕ) (a : Answer) → IsBlock body b → b.header.round ≡ suc (length (held s).blocks) → true ≡ not (same_bytes b.header.prev s.before.hash) → front ≡ length (held s).blocks → a ≡ wrong_prev front s.before.hash
-    → Posts (held s).origin (held s).blocks body a ⊎ (a ≡ memory_answer)
-prev_posts s k body b front a is round differ at e =
-    let other : same_bytes b.header.prev (header_hash_of s.before.header) ≡ false = ap (same_bytes b.header.prev) (sym k.hash_is) ∙ flipped (same_bytes b.header.prev s.before.hash) true differ in
-    let shown : a ≡ wrong_prev (length (held s).blocks) (header_hash_of s.before.header) = e ∙ ap (λ n. wrong_prev n s.before.hash) at ∙ ap (wrong_prev (length (held s).blocks)) k.hash_is in
-    next_posts s k body b a is round (judged_prev (length (held s).blocks) (last_of s k) b other ∙ ap Some (sym shown))
+outside : (blocks : List Block) (next front : ℕ) → next ≡ suc (length blocks) → front ≡ length blocks → answers.Refused 409 errors.WrongRound (record nothing { front = Some front; next = Some next }) ≡ wrong_round (length blocks)
+outside blocks next front n f = ap₂ (λ x y. answers.Refused 409 errors.WrongRound (record nothing { front = Some x; next = Some y })) f n
 
-continues : (s : States) (k : IsStates s) (b : Block) → false ≡ not (same_bytes b.header.prev s.before.hash) → same_bytes b.header.prev (header_hash_of s.before.header) ≡ true
-continues s k b same = ap (same_bytes b.header.prev) (sym k.hash_is) ∙ flipped (same_bytes b.header.prev s.before.hash) false same
-
--- it is not built
-pub odd_posts : (s : States) (k : IsStates s) (body : List ℕ) (b : Block) (a : Answer) → IsBlock body b → b.header.round ≡ suc (length (held s).blocks) → false ≡ not (same_bytes b.header.prev s.before.hash) → is_built b ≡ false → a ≡ not_built
-    → Posts (held s).origin (held s).blocks body a ⊎ (a ≡ memory_answer)
-odd_posts s k body b a is round same odd e = next_posts s k body b a is round (judged_odd (length (held s).blocks) (last_of s k) b (continues s k b same) odd ∙ ap Some (sym e))
-
-shown_refusal : {F : Type 0} (due : Result State Refusal) (front : ℕ) (r : EvalRefusal F) (a : Answer) → Steps due (Err r) → ShowsRefusal front r a → (refused front due ≡ Some a) ⊎ (a ≡ memory_answer)
-shown_refusal due front (refusals.Broken place rule) a x y = inl (ap (refused front) x ∙ y)
-shown_refusal due front (refusals.Header field) a x y = inl (ap (refused front) x ∙ y)
-shown_refusal due front (refusals.PoolShort pool owed) a x y = inl (ap (refused front) x ∙ y)
-shown_refusal due front (refusals.View f) a x y = inr y
-shown_refusal due front refusals.Memory a x y = inr y
-
-refused_or : (s : States) (k : IsStates s) (body : List ℕ) (b : Block) (a : Answer) → IsBlock body b → b.header.round ≡ suc (length (held s).blocks) → judged (length (held s).blocks) (last_of s k) b ≡ refused (length (held s).blocks) (step (last_of s k) b)
-    → (refused (length (held s).blocks) (step (last_of s k) b) ≡ Some a) ⊎ (a ≡ memory_answer) → Posts (held s).origin (held s).blocks body a ⊎ (a ≡ memory_answer)
-refused_or s k body b a is round due (inl e) = next_posts s k body b a is round (due ∙ e)
-refused_or s k body b a is round due (inr none) = inr none
-
--- the step refuses it
-pub step_posts : {F : Type 0} (s : States) (k : IsStates s) (body : List ℕ) (b : Block) (rows : Tree) (front : ℕ) (r : EvalRefusal F) (a : Answer) → IsBlock body b → b.header.round ≡ suc (length (held s).blocks) → false ≡ not (same_bytes b.header.prev s.before.hash) → is_built b ≡ true
-    → rows ≡ last_rows s.rows s.accepted.items → Steps (step (begun s.before rows k.past) b) (Err r) → front ≡ length (held s).blocks → ShowsRefusal front r a
-    → Posts (held s).origin (held s).blocks body a ⊎ (a ≡ memory_answer)
-step_posts s k body b rows front r a is round same plain led steps at shows =
-    let due : Steps (step (last_of s k) b) (Err r) = subst (λ (t : Tree). Steps (step (begun s.before t k.past) b) (Err r)) led steps in
-    let shown : ShowsRefusal (length (held s).blocks) r a = subst (λ n. ShowsRefusal n r a) at shows in
-    refused_or s k body b a is round (judged_step (length (held s).blocks) (last_of s k) b (continues s k b same) plain) (shown_refusal (step (last_of s k) b) (length (held s).blocks) r a due shown)
+-- why bytes are refused is the answer
+refused_posts : (o : State) (blocks : List Block) (body : List ℕ) (r : AcceptRefusal) → IsRefused o blocks body r → Posts o blocks body (refusal_answer r) ⊎ (refusal_answer r ≡ memory_answer)
+refused_posts o blocks body (refusals.Undecodable f) h = inl (inl (f, h, refl))
+refused_posts o blocks body (refusals.WrongRound next front) (b, is, (out, n, f)) = inl (inr (b, is, inl (out, outside blocks next front n f)))
+refused_posts o blocks body (refusals.Fork hash front) (b, is, ((kept, here, other, hashed), f)) = inl (inr (b, is, inr (inl (kept, here, inr (other, ap₂ fork f hashed)))))
+refused_posts o blocks body (refusals.WrongPrev hash front) (b, is, (s, next, hashed, f)) =
+    next_posts o s blocks body b false (wrong_prev front hash) is next (judged_prev (length blocks) s b next.prev ∙ ap Some (sym (ap₂ wrong_prev f hashed)))
+refused_posts o blocks body (refusals.Eval e front) (b, is, (s, next, built, due, f)) =
+    subst (λ n. Posts o blocks body (eval_answer n e) ⊎ (eval_answer n e ≡ memory_answer)) (sym f) (eval_posts o s blocks body b e is next built due)
+refused_posts o blocks body refusals.NotBuilt (b, is, (s, next, odd)) = next_posts o s blocks body b true not_built is next (judged_odd (length blocks) s b next.prev odd)
+refused_posts o blocks body refusals.Memory h = inr refl
 
 -- a block that is taken
 pub answered_taken : (h k : Held) (body : List ℕ) (b : Block) (front : ℕ) (t : Told) → k ≡ record h { blocks = h.blocks ++ b ∷ [] } → IsBlock body b → b.header.round ≡ suc (length h.blocks) → front ≡ length k.blocks → t ≡ record { front = length k.blocks; answer = taken front front } → IsAnswered h k asks.Post body t
@@ -210,3 +170,44 @@ answered_taken h k body b front t grown is round at told =
     let e2 : t ≡ record { front = length new.blocks; answer = a } = e1 ∙ ap (λ (z : Held). record { front = length z.blocks; answer = taken (length z.blocks) (length z.blocks) }) grown in
     let y : IsAnswered h new asks.Post body t = subst (IsAnswered h new asks.Post body) (sym e2) x in
     subst (λ (z : Held). IsAnswered h z asks.Post body t) (sym grown) y
+
+-- what comes of posted bytes is the answer to them
+pub accept_answered : (before after : Held) (body : List ℕ) (r : Result Accepted AcceptRefusal) (t : Told) → Accepts before after body r → t ≡ record { front = length after.blocks; answer = accept_answer r } → IsAnswered before after asks.Post body t
+accept_answered before after body (Ok a) t (inl (same, (b, is, (kept, again, here, at)))) told =
+    let answer : taken a.front a.round ≡ taken (length before.blocks) b.header.round = ap (λ (x : Accepted). taken x.front x.round) at in
+    let posts : Posts before.origin before.blocks body (taken a.front a.round) = inr (b, is, inr (inl (kept, here, inl (again, answer)))) in
+    subst (λ (h : Held). IsAnswered before h asks.Post body t) (sym same) (answered_same before asks.Post body (taken a.front a.round) t (told ∙ ap (λ (h : Held). record { front = length h.blocks; answer = taken a.front a.round }) same) (inl posts))
+accept_answered before after body (Ok a) t (inr (b, is, round, grown, at)) told =
+    let long : length after.blocks ≡ suc (length before.blocks) = ap (λ (h : Held). length h.blocks) grown ∙ (let x = length-append before.blocks (b ∷ []) in omega (arith, x)) in
+    answered_taken before after body b b.header.round t grown is round (round ∙ sym long) (told ∙ ap (λ (x : Accepted). record { front = length after.blocks; answer = taken x.front x.round }) at)
+accept_answered before after body (Err r) t (same, why) told =
+    subst (λ (h : Held). IsAnswered before h asks.Post body t) (sym same) (answered_same before asks.Post body (refusal_answer r) t (told ∙ ap (λ (h : Held). record { front = length h.blocks; answer = refusal_answer r }) same) (refused_posts before.origin before.blocks body r why))
+
+-- ---- refusals
+
+-- the block is the next one, and continues the last one or does not
+pub next_is : (s : States) (k : IsStates s) (b : Block) (same : Bool) → b.header.round ≡ suc (length (held s).blocks) → same_bytes b.header.prev s.before.hash ≡ same → IsNext (held s).origin (held s).blocks b same (last_state s k)
+next_is s k b same round e = record { round = round; replayed = led_to_last s k; prev = ap (same_bytes b.header.prev) (sym k.hash_is) ∙ e }
+
+pub flipped : (b c : Bool) → c ≡ not b → b ≡ not c
+flipped true c e = ap not (sym e)
+flipped false c e = ap not (sym e)
+
+pub bytes_are : (a b : List ℕ) → a ≡ b → same_bytes a b ≡ true
+bytes_are a b e = (bytes_eq-Decides a b).1 e
+
+-- bytes that spell no block
+pub fault_refused : (o : State) (blocks : List Block) (body : List ℕ) (f : BlockFault) → BlockMeansUnless body (Err f) → IsRefused o blocks body (outer_fault f)
+fault_refused o blocks body (faults.Decode places.Memory) x = tt
+fault_refused o blocks body (faults.Decode f) x = x
+fault_refused o blocks body (faults.Field name) x = x
+fault_refused o blocks body (faults.Range name) x = x
+fault_refused o blocks body faults.Memory x = tt
+
+-- a block that the step refuses
+pub step_refused : (o s : State) (blocks : List Block) (body : List ℕ) (b : Block) (front : ℕ) (e : EvalRefusal Never) → IsBlock body b → IsNext o blocks b true s → is_built b ≡ true → IsStepRefusal s b (refusal_of e) → front ≡ length blocks → IsRefused o blocks body (outer_refusal front e)
+step_refused o s blocks body b front (evals.Broken place rule) is next built due f = (b, is, (s, next, built, due, f))
+step_refused o s blocks body b front (evals.Header field) is next built due f = (b, is, (s, next, built, due, f))
+step_refused o s blocks body b front (evals.PoolShort pool owed) is next built due f = (b, is, (s, next, built, due, f))
+step_refused o s blocks body b front (evals.View never) is next built due f = absurd never
+step_refused o s blocks body b front evals.Memory is next built due f = tt

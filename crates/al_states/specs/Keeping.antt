@@ -1,88 +1,94 @@
--- What the states of a ledger keep: the rows after each block.
-use Rattle.std.specs.Prelude.{◌≡◌, ℕ, zero, suc, List, [], ◌∷◌, length, map, All, Ok}
-use Rattle.std.specs.FinMap.{from_entries}
-use Rattle.std.specs.BTreeMap.{BTreeMap}
-use Rattle.al_base.specs.declared.key.Key.{Key}
+-- What the states of a ledger keep: the rows at the origin, what each block changes, and the newest rows.
+use Rattle.std.specs.Prelude.{◌≡◌, ℕ, List, [], ◌∷◌, map, All}
+use Rattle.std.specs.declared.result.Result.{Result}
+use Rattle.std.specs.declared.result.Result.TheVariants.{Ok, Err}
+use Rattle.std.specs.declared.option.Option.{Option}
+use Rattle.std.specs.declared.option.Option.TheVariants.{None, Some}
 use Rattle.al_txn.specs.declared.chain.Chain.{Chain}
 use Rattle.al_txn.specs.declared.txn.Txn.{Txn}
 use Rattle.al_block.specs.declared.header.Header.{Header}
 use Rattle.al_block.specs.declared.block.Block.{Block}
 use Rattle.al_block.specs.Block.{IsBlock}
 use Rattle.al_block.specs.Hashes.{header_hash_of}
-use Rattle.al_rows.specs.declared.stored.Stored.{Stored}
-use Rattle.al_rows.specs.Rows.{IsKept, bare}
+use Rattle.al_deltas.specs.declared.delta.RoundDelta.{RoundDelta}
+use Rattle.al_deltas.specs.Queue.{Queue, StoredMap, IsKeptDelta, after_delta, last_of, rows_after}
+use Rattle.al_rows.specs.Rows.{bare}
 use Rattle.al_rewards.specs.declared.totals.Totals.{Totals}
 use Rattle.al_moves.specs.Money.{counts}
+use Rattle.al_eval.specs.Answers.{IsDeltaOf}
 use Rattle.al_eval.specs.State.{State, counts_in, step, replay}
-use Rattle.al_eval.specs.Sound.{Sound}
+use Rattle.al_eval.specs.Sound.{IsStepRefusal, Sound}
+use Rattle.al_eval.specs.Refusals.{refusal_of}
+use Rattle.al_eval.specs.declared.before.EvalRefusal.{EvalRefusal}
 use Rattle.al_eval.specs.Past.{entry_of}
 use Rattle.al_eval.specs.declared.tail.Entry.{Entry}
-use Rattle.al_states.specs.declared.states.Accepted.{Accepted}
+use Rattle.al_eval.specs.declared.run.Evaluated.{Evaluated}
+use Rattle.al_states.specs.declared.keeping.KeptBlock.{KeptBlock}
 use Rattle.al_states.specs.declared.states.States.{States}
 use Rattle.al_states.specs.Held.{Held}
 
--- rows as the code keeps them
-abbrev pub Tree : Type 0
-Tree = BTreeMap Key Stored
-
 -- the state that a ledger began with
-abbrev pub origin_of : Chain → Header → Tree → State
-origin_of chain header rows = record { chain = chain; header = header; rows = from_entries rows.entries; past = [] }
+abbrev pub origin_of : Chain → Header → StoredMap → State
+origin_of chain header rows = record { chain = chain; header = header; rows = rows; past = [] }
 
--- the blocks that were accepted, in order
-abbrev pub blocks_of : List Accepted → List Block
-blocks_of accepted = map (λ a. a.block) accepted
+-- the blocks that are kept, in order
+abbrev pub blocks_of : List KeptBlock → List Block
+blocks_of kept = map (λ k. k.block) kept
 
--- each block leads from one state to the next, whose rows are kept
-abbrev pub Follows : State → List Accepted → State → Type 0
-Follows s [] last = s ≡ last
-Follows s (a ∷ more) last = (n : State) × (step s a.block ≡ Ok n) × (n.rows ≡ from_entries a.rows.entries) × Follows n more last
+-- each block leads from one state to the next, whose rows are those before with what the block changes put over them
+abbrev pub Follows : State → List Block → List RoundDelta → State → Type 0
+Follows s [] [] last = s ≡ last
+Follows s (b ∷ bs) (d ∷ ds) last = (n : State) × (step s b ≡ Ok n) × (n.rows ≡ after_delta d s.rows) × (d.header ≡ b.header) × Follows n bs ds last
+Follows s bs ds last = ⊥
 
--- the rows after the first n blocks
-abbrev pub rows_at : Tree → List Accepted → ℕ → Tree
-rows_at rows accepted zero = rows
-rows_at rows [] (suc n) = rows
-rows_at rows (a ∷ more) (suc n) = rows_at a.rows more n
+-- rows with what a block changes put over them, if there is one
+abbrev pub caught_up : Option RoundDelta → StoredMap → StoredMap
+caught_up None m = m
+caught_up (Some d) m = after_delta d m
 
--- the header of the n-th block, or the first one
-abbrev pub header_at : Header → List Accepted → ℕ → Header
-header_at header accepted zero = header
-header_at header [] (suc n) = header
-header_at header (a ∷ more) (suc n) = header_at a.block.header more n
-
--- the rows after the last block
-abbrev pub last_rows : Tree → List Accepted → Tree
-last_rows rows accepted = rows_at rows accepted (length accepted)
-
--- all rows are kept ones, after each block
-abbrev pub AllKept : Tree → List Accepted → Type 0
-AllKept rows [] = All (λ e. IsKept e.0 e.1.row) rows.entries
-AllKept rows (a ∷ more) = All (λ e. IsKept e.0 e.1.row) rows.entries × AllKept a.rows more
-
--- what is kept is the states of the chain: the rows after each block, and what the next step begins with
-pub record IsKeeping (chain : Chain) (first : Header) (rows : Tree) (accepted : List Accepted) (header : Header) (hash : List ℕ) (totals : Totals) (tail : List Entry) : Type 0 where
+-- What is kept is the states of the chain: the rows at the origin, what each block changes, and what the next step begins with. The newest rows may lack what the last block changes, or a part of it: to put that once more gives the rows after the last block
+pub record IsKeeping (chain : Chain) (first : Header) (base newest : StoredMap) (deltas : Queue) (kept : List KeptBlock) (header : Header) (hash : List ℕ) (totals : Totals) (tail : List Entry) : Type 0 where
   pub past : List Txn
-  pub follows : Follows (origin_of chain first rows) accepted (record { chain = chain; header = header; rows = from_entries (last_rows rows accepted).entries; past = past })
+  pub follows : Follows (origin_of chain first base) (blocks_of kept) deltas.deltas (record { chain = chain; header = header; rows = rows_after deltas.deltas base; past = past })
+  pub begins : deltas.base ≡ 0
+  pub level : deltas.totals.level ≡ first.level
+  pub changes : All IsKeptDelta deltas.deltas
+  pub newest_is : caught_up (last_of deltas.deltas) newest ≡ rows_after deltas.deltas base
   pub hash_is : hash ≡ header_hash_of header
   pub tail_is : tail ≡ map entry_of past
-  pub sound : Sound (origin_of chain first rows)
-  pub totals_are : totals ≡ counts header.level (bare (from_entries (last_rows rows accepted).entries))
-  pub kept : AllKept rows accepted
-  pub spelled : All (λ a. IsBlock a.bytes.items a.block) accepted
+  pub sound : Sound (origin_of chain first base)
+  pub totals_are : totals ≡ counts header.level (bare (rows_after deltas.deltas base))
+  pub spelled : All (λ k. IsBlock k.bytes.items k.block) kept
 
 -- what the states of a ledger hold
 abbrev pub held : States → Held
-held s = record { origin = origin_of s.before.chain s.first s.rows; blocks = blocks_of s.accepted.items }
+held s = record { origin = origin_of s.before.chain s.first s.base; blocks = blocks_of s.kept.items }
 
 -- the states are those of one chain. What `States::open` gives is so, and every call keeps it
 abbrev pub IsStates : States → Type 0
-IsStates s = IsKeeping s.before.chain s.first s.rows s.accepted.items s.before.header s.before.hash s.before.totals s.tail
+IsStates s = IsKeeping s.before.chain s.first s.base s.newest s.deltas s.kept.items s.before.header s.before.hash s.before.totals s.tail
 
--- the block leads from the state after the blocks that are held to these rows, which have these totals
-pub record Leads (held : Held) (b : Block) (rows : Tree) (totals : Totals) : Type 0 where
-  pub last : State
+-- the newest rows lack nothing
+abbrev pub IsNewest : States → Type 0
+IsNewest s = s.newest ≡ rows_after s.deltas.deltas s.base
+
+-- a step from a state gives what the block changes, and what is kept of its transactions
+pub record IsEvaluated (s : State) (b : Block) (e : Evaluated) : Type 0 where
   pub next : State
-  pub replayed : replay held.origin held.blocks ≡ Ok last
-  pub stepped : step last b ≡ Ok next
-  pub rows_are : next.rows ≡ from_entries rows.entries
-  pub totals_are : totals ≡ counts_in next
+  pub stepped : step s b ≡ Ok next
+  pub rows : next.rows ≡ after_delta e.delta s.rows
+  pub totals : e.delta.totals ≡ counts_in next
+  pub is_of : IsDeltaOf b.header e.delta
+  pub kept : IsKeptDelta e.delta
+  pub entries : e.entries.items ≡ map (λ i. entry_of i.txn) b.items
+
+-- what a step over a state gives, or why the block is refused
+abbrev pub EvaluatesTo : {F : Type 0} → State → Block → Result Evaluated (EvalRefusal F) → Type 0
+EvaluatesTo s b (Ok e) = IsEvaluated s b e
+EvaluatesTo s b (Err e) = IsStepRefusal s b (refusal_of e)
+
+-- a block leads on from the state after the blocks that are held
+pub record Leads (h : Held) (b : Block) (e : Evaluated) : Type 0 where
+  pub last : State
+  pub replayed : replay h.origin h.blocks ≡ Ok last
+  pub evaluated : IsEvaluated last b e

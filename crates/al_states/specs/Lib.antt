@@ -3,3 +3,5 @@ pub mod Held
 pub mod Replies
 pub mod Keeping
 pub mod Opening
+pub mod Looking
+pub mod Accepting

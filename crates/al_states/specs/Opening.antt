@@ -6,8 +6,8 @@ use Rattle.al_genesis.specs.declared.genesis.GenesisFault.TheVariants as read
 use Rattle.al_genesis.specs.Genesis.{IsGenesis, GenesisMeans, number_of}
 use Rattle.al_eval.specs.Start.{start}
 use Rattle.al_states.specs.declared.states.States.{States}
-use Rattle.al_states.specs.declared.states.OpenFault.{OpenFault}
-use Rattle.al_states.specs.declared.states.OpenFault.TheVariants as faults
+use Rattle.al_states.specs.declared.opening.OpenFault.{OpenFault}
+use Rattle.al_states.specs.declared.opening.OpenFault.TheVariants as faults
 use Rattle.al_states.specs.Keeping.{IsStates, held}
 
 -- the file holds no genesis, and this is the number of its first fault

@@ -15,8 +15,6 @@ use Rattle.al_rows.specs.declared.row.Row.{Row}
 use Rattle.al_rows.specs.declared.row.Row.TheVariants as rows
 use Rattle.al_rows.specs.declared.stored.Stored.{Stored}
 use Rattle.al_moves.specs.declared.rule.Rule.{Rule}
-use Rattle.al_eval.specs.declared.before.EvalRefusal.{EvalRefusal}
-use Rattle.al_eval.specs.declared.before.EvalRefusal.TheVariants as refusals
 use Rattle.al_eval.specs.Steps.{Refusal, broken, header, pool_short}
 use Rattle.al_eval.specs.State.{State, step, replay, row_at, level_at}
 use Rattle.al_http.specs.declared.asking.Request.{Request}
@@ -25,7 +23,7 @@ use Rattle.al_http.specs.declared.answer.Answer.{Answer}
 use Rattle.al_http.specs.declared.answer.Answer.TheVariants as answers
 use Rattle.al_http.specs.declared.answer.ErrorName.TheVariants as errors
 use Rattle.al_http.specs.Answers.{nothing, memory_answer, not_built_answer}
-use Rattle.al_states.specs.declared.states.Told.{Told}
+use Rattle.al_states.specs.declared.told.Told.{Told}
 use Rattle.al_states.specs.Held.{Held}
 use Rattle.al_states.specs.Built.{is_built}
 
@@ -124,14 +122,6 @@ stepped front s b = if is_built b then refused front (step s b) else Some not_bu
 -- the refusal of a block of the next round, or none where it is taken
 abbrev pub judged : ℕ → State → Block → Option Answer
 judged front s b = if same_bytes b.header.prev (header_hash_of s.header) then stepped front s b else Some (wrong_prev front (header_hash_of s.header))
-
--- what a refusal of the code's step is answered
-abbrev pub ShowsRefusal : {F : Type 0} → ℕ → EvalRefusal F → Answer → Type 0
-ShowsRefusal front (refusals.Broken place rule) a = refused front (Err (broken place rule)) ≡ Some a
-ShowsRefusal front (refusals.Header field) a = refused front (Err (header field)) ≡ Some a
-ShowsRefusal front (refusals.PoolShort pool owed) a = refused front (Err (pool_short pool owed)) ≡ Some a
-ShowsRefusal front (refusals.View f) a = a ≡ memory_answer
-ShowsRefusal front refusals.Memory a = a ≡ memory_answer
 
 -- the blocks have this one at a round; the first is of round 1
 abbrev pub IsBlockOf : List Block → ℕ → Block → Type 0

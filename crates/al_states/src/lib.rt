@@ -1,8 +1,17 @@
 //! The states of the ledger, one after each block, and the answers that they give.
 #![tactic(auto)]
 
+mod accepting;
 mod built;
+mod keeping;
+mod looking;
+mod opening;
 mod replies;
 mod states;
+mod told;
 
-pub use states::{Accepted, OpenFault, States, Told};
+pub use accepting::{AcceptRefusal, Accepted};
+pub use looking::{LookRefusal, RowAnswer};
+pub use opening::OpenFault;
+pub use states::States;
+pub use told::Told;

@@ -1,20 +1,106 @@
-//! The answers of the ledger, by what they say.
-ghost use Rattle.std.specs.Prelude.{◌≡◌, ◌<◌, ◌^◌, Some};
+//! The answers to look-ups and posted bytes, by what came of them.
+ghost use Rattle.std.specs.Prelude.{◌≡◌, Some};
 ghost use Rattle.std.specs.Option.{option_copied};
 ghost use Rattle.al_http.specs.Answers.{memory_answer, nothing};
 ghost use Rattle.al_http.specs.declared.answer.Answer.TheVariants as answers;
-ghost use Rattle.al_states.specs.Replies.{ShowsRefusal, account_answer, broken_at, fork, misspelled, no_row, not_built, short, taken, too_new, undecodable, wrong_header, wrong_prev, wrong_round};
+ghost use Rattle.al_http.specs.declared.answer.ErrorName.TheVariants as errors;
+ghost use Rattle.al_states.specs.Accepting.{accept_answer, eval_answer, refusal_answer};
+ghost use Rattle.al_states.specs.Looking.{look_answer, row_answer};
+ghost use Rattle.al_states.specs.Replies.{broken_at, misspelled, no_row, not_built, short, too_new, undecodable, wrong_header};
 
+use crate::{AcceptRefusal, Accepted, LookRefusal, RowAnswer};
 use al_base::{Bytes, Hash};
 use al_block::{BlockFault, Field};
 use al_eval::EvalRefusal;
 use al_http::{Answer, ErrorName, More};
 use al_moves::Rule;
 use al_msgpack::DecodeFault;
-use al_rows::{Never, Row, Stored};
+use al_rows::{Never, Row};
+
+// ---- look-ups
+
+// What a look-up of an account is answered.
+pub fn look_answer(look: Result<RowAnswer<'_>, LookRefusal>) -> Answer
+    ensures { result ≡ look_answer look.entry }
+{
+    match look {
+        Ok(shown) => row_answer(shown.front, shown.round, shown.level, shown.row),
+        Err(LookRefusal::TooNew { front }) => too_new(front),
+    }
+}
+
+fn row_answer(front: u64, round: u64, level: u64, row: Option<&Row>) -> Answer
+    ensures { result ≡ row_answer front round level (option_copied row.entry) }
+{
+    match row {
+        Some(Row::Account(row)) => Answer::Account {
+            front,
+            round,
+            level,
+            row: *row,
+        },
+        _ => no_row(front, round),
+    }
+}
+
+fn too_new(front: u64) -> Answer
+    ensures { result ≡ too_new front }
+{
+    Answer::Refused {
+        status: 404,
+        error: ErrorName::TooNew,
+        more: More {
+            front: Some(front),
+            ..More::nothing()
+        },
+    }
+}
+
+fn no_row(front: u64, round: u64) -> Answer
+    ensures { result ≡ no_row front round }
+{
+    Answer::Refused {
+        status: 404,
+        error: ErrorName::NoRow,
+        more: More {
+            front: Some(front),
+            round: Some(round),
+            ..More::nothing()
+        },
+    }
+}
+
+// ---- posted bytes
+
+// What comes of posted bytes is answered so.
+pub fn accept_answer(accepted: Result<Accepted, AcceptRefusal>) -> Answer
+    ensures { result ≡ accept_answer accepted }
+{
+    match accepted {
+        Ok(accepted) => Answer::Taken {
+            front: accepted.front,
+            round: accepted.round,
+        },
+        Err(refusal) => refusal_answer(refusal),
+    }
+}
+
+fn refusal_answer(refusal: AcceptRefusal) -> Answer
+    ensures { result ≡ refusal_answer refusal }
+{
+    match refusal {
+        AcceptRefusal::Undecodable(fault) => undecodable(fault),
+        AcceptRefusal::WrongRound { next, front } => wrong_round(next, front),
+        AcceptRefusal::Fork { kept, front } => other_chain(ErrorName::Fork, front, kept),
+        AcceptRefusal::WrongPrev { kept, front } => other_chain(ErrorName::WrongPrev, front, kept),
+        AcceptRefusal::Eval { refusal, front } => eval_answer(front, refusal),
+        AcceptRefusal::NotBuilt => not_built(),
+        AcceptRefusal::Memory => memory(),
+    }
+}
 
 // What posted bytes are answered that spell no block.
-pub fn undecodable(fault: BlockFault) -> Answer
+fn undecodable(fault: BlockFault) -> Answer
     ensures { result ≡ undecodable fault }
 {
     match fault {
@@ -62,37 +148,18 @@ fn misplaced(error: ErrorName, at: usize) -> Answer
     }
 }
 
-pub fn taken(front: u64, round: u64) -> Answer
-    ensures { result ≡ taken front round }
-{
-    Answer::Taken { front, round }
-}
-
-pub fn wrong_round(front: u64) -> Answer
-    requires { front < 2 ^ 63 }
-    ensures { result ≡ wrong_round front }
+fn wrong_round(next: u64, front: u64) -> Answer
+    ensures { result ≡ answers.Refused 409 errors.WrongRound (record nothing { front = Some front; next = Some next }) }
 {
     Answer::Refused {
         status: 409,
         error: ErrorName::WrongRound,
         more: More {
             front: Some(front),
-            next: Some(front + 1),
+            next: Some(next),
             ..More::nothing()
         },
     }
-}
-
-pub fn fork(front: u64, hash: Hash) -> Answer
-    ensures { result ≡ fork front hash }
-{
-    other_chain(ErrorName::Fork, front, hash)
-}
-
-pub fn wrong_prev(front: u64, hash: Hash) -> Answer
-    ensures { result ≡ wrong_prev front hash }
-{
-    other_chain(ErrorName::WrongPrev, front, hash)
 }
 
 fn other_chain(error: ErrorName, front: u64, hash: Hash) -> Answer
@@ -110,8 +177,8 @@ fn other_chain(error: ErrorName, front: u64, hash: Hash) -> Answer
 }
 
 // What a block is answered that the step refuses.
-pub fn refused(front: u64, refusal: EvalRefusal<Never>) -> Answer
-    ensures { ShowsRefusal front refusal result }
+fn eval_answer(front: u64, refusal: EvalRefusal<Never>) -> Answer
+    ensures { result ≡ eval_answer front refusal }
 {
     match refusal {
         EvalRefusal::Broken { place, rule } => broken(front, place, &rule),
@@ -149,26 +216,6 @@ fn short(front: u64) -> Answer
     }
 }
 
-pub fn not_built() -> Answer
-    ensures { result ≡ not_built }
-{
-    Answer::Refused {
-        status: 501,
-        error: ErrorName::NotBuilt,
-        more: More::nothing(),
-    }
-}
-
-pub fn memory() -> Answer
-    ensures { result ≡ memory_answer }
-{
-    Answer::Refused {
-        status: 507,
-        error: ErrorName::Memory,
-        more: More::nothing(),
-    }
-}
-
 // The refusal by a rule.
 fn broken(front: u64, place: usize, rule: &Rule) -> Answer
     ensures { result ≡ broken_at front place rule.now }
@@ -191,46 +238,22 @@ fn broken(front: u64, place: usize, rule: &Rule) -> Answer
     }
 }
 
-pub fn account_answer(front: u64, round: u64, level: u64, stored: Option<&Stored>) -> Answer
-    ensures { result ≡ account_answer front round level (option_copied stored.entry) }
+fn not_built() -> Answer
+    ensures { result ≡ not_built }
 {
-    match stored {
-        None => no_row(front, round),
-        Some(stored) => match &stored.row {
-            Row::Account(row) => Answer::Account {
-                front,
-                round,
-                level,
-                row: *row,
-            },
-            _ => no_row(front, round),
-        },
+    Answer::Refused {
+        status: 501,
+        error: ErrorName::NotBuilt,
+        more: More::nothing(),
     }
 }
 
-pub fn too_new(front: u64) -> Answer
-    ensures { result ≡ too_new front }
+fn memory() -> Answer
+    ensures { result ≡ memory_answer }
 {
     Answer::Refused {
-        status: 404,
-        error: ErrorName::TooNew,
-        more: More {
-            front: Some(front),
-            ..More::nothing()
-        },
-    }
-}
-
-fn no_row(front: u64, round: u64) -> Answer
-    ensures { result ≡ no_row front round }
-{
-    Answer::Refused {
-        status: 404,
-        error: ErrorName::NoRow,
-        more: More {
-            front: Some(front),
-            round: Some(round),
-            ..More::nothing()
-        },
+        status: 507,
+        error: ErrorName::Memory,
+        more: More::nothing(),
     }
 }

@@ -1,66 +1,50 @@
 //! The states of the ledger, one after each block.
-ghost use Rattle.std.specs.Prelude.{◌≡◌, ◌⊎◌, ◌≤◌, ◌<◌, ◌^◌, ℕ, suc, List, [], ◌∷◌, ◌++◌, length, map, All, IfOk, OnOk, OnErr};
+ghost use Rattle.std.specs.Prelude.{◌≡◌, ◌≤◌, ◌<◌, ◌^◌, suc, true, [], ◌∷◌, ◌++◌, length, All, option_map, IfOk, IfSome, OnOk, OnErr};
 ghost use Rattle.std.specs.Option.{option_copied};
-ghost use Rattle.std.specs.BTreeMap as tree;
-ghost use Rattle.al_base.specs.Keys.{key_cmp};
 ghost use Rattle.al_block.specs.Block.{IsBlock};
-ghost use Rattle.al_eval.specs.Past.{entry_of};
 ghost use Rattle.al_eval.specs.Sound.{Sound};
-ghost use Rattle.al_eval.specs.Start.{start, start_totals};
-ghost use Rattle.al_eval.specs.State.{counts_in};
-ghost use Rattle.al_http.specs.Answers.{IsSound, memory_answer};
-ghost use Rattle.al_http.specs.declared.asking.Request.TheVariants as asks;
+ghost use Rattle.al_eval.specs.Start.{start, start_rows, start_totals};
+ghost use Rattle.al_eval.specs.State.{counts_in, row_at};
+ghost use Rattle.al_http.specs.Answers.{IsSound};
+ghost use Rattle.al_states.specs.Accepting.{Accepts, IsNext};
+ghost use Rattle.al_states.specs.Built.{is_built};
 ghost use Rattle.al_states.specs.Held.{IsValid};
-ghost use Rattle.al_states.specs.Keeping.{IsStates, Leads, header_at, held, rows_at};
-ghost use Rattle.al_states.specs.Opening.{Opens, fault_of};
-ghost use Rattle.al_states.specs.Replies.{IsAnswered, IsRepeated, looked};
+ghost use Rattle.al_states.specs.Keeping.{IsNewest, IsStates, Leads, held};
+ghost use Rattle.al_states.specs.Looking.{Looks};
+ghost use Rattle.al_states.specs.Opening.{Opens};
+ghost use Rattle.al_states.specs.Replies.{IsAnswered, looked};
 ghost use Rattle.al_rewards.specs.Totals.{AreTotals};
 ghost use Rattle.al_rows.specs.Rows.{AccountInRange, IsKept};
 
+use crate::accepting::{undecodable, unfit};
 use crate::built::is_built;
-use crate::replies::{
-    account_answer, fork, memory, not_built, refused, taken, too_new, undecodable, wrong_prev,
-    wrong_round,
-};
+use crate::keeping::{KeptBlock, catch_up, evaluate, keep};
+use crate::opening::fault_of;
+use crate::replies::{accept_answer, look_answer};
+use crate::{AcceptRefusal, Accepted, LookRefusal, OpenFault, RowAnswer, Told};
 use al_base::{Address, Key};
 use al_block::{Block, Header, decode_block, header_hash};
-use al_eval::{Before, Genesis, GenesisFault, Stepped, Tail, start_rows, start_totals, step_rows};
+use al_deltas::{Deltas, KeptRows};
+use al_eval::{Before, Evaluated, Genesis, GenesisRow, Tail, start_rows, start_totals};
 use al_http::{Answer, Request};
-use al_rows::Stored;
+use al_rows::Row;
 use std::alloc::{AllocError, Global};
-use std::collections::BTreeMap;
-
-/// An answer, and the front at which it was given.
-#[derive(Debug, Drop)]
-pub struct Told {
-    pub front: u64,
-    pub answer: Answer,
-}
-
-/// Why a genesis file opens no ledger.
-#[derive(Clone, Copy, Debug, PartialEq, Eq)]
-pub enum OpenFault {
-    /// It holds no genesis, and this is the number of its first fault.
-    Genesis { number: u8 },
-    /// There was no memory.
-    Memory,
-}
-
-/// A block that was accepted, the bytes that spell it, and the rows after it.
-#[derive(Drop)]
-pub struct Accepted {
-    block: Block,
-    bytes: Vec<u8>,
-    rows: BTreeMap<Key, Stored>,
-}
 
 /// The states of the ledger: the one that it began with, and the one after each block.
 #[derive(Drop)]
 pub struct States {
     alloc: Global,
+    // The header at the origin.
     first: Header,
-    rows: BTreeMap<Key, Stored>,
-    accepted: Vec<Accepted>,
+    // The rows at the origin.
+    base: KeptRows,
+    // What each block changes.
+    deltas: Deltas,
+    // The rows after the last block, which may lack what it changes.
+    newest: KeptRows,
+    // The blocks.
+    kept: Vec<KeptBlock>,
+    // What the next step begins with, and the transactions of the blocks.
     before: Before,
     tail: Tail,
 }
@@ -94,13 +78,16 @@ impl States {
     {
         let first = genesis.header.copy(alloc)?;
         let hash = header_hash(alloc, &first)?;
-        let rows = start_rows(alloc, genesis.accounts.as_slice())?;
+        let base = first_rows(alloc, genesis.accounts.as_slice())?;
+        let newest = first_rows(alloc, genesis.accounts.as_slice())?;
         let totals = start_totals(genesis.accounts.as_slice());
         Ok(States {
             alloc,
             first,
-            rows,
-            accepted: Vec::new(alloc),
+            base,
+            deltas: Deltas::new(alloc, 0, totals),
+            newest,
+            kept: Vec::new(alloc),
             before: Before {
                 chain: genesis.chain,
                 header: genesis.header,
@@ -118,7 +105,43 @@ impl States {
         ensures bound { result < 2 ^ 63 }
         ensures valid { IsValid (held self.now).origin (held self.now).blocks }
     {
-        self.accepted.len() as u64
+        self.kept.len() as u64
+    }
+
+    /// The row under a key after a round, no round being the last one. Errors: `TooNew` exactly
+    /// where the round is above the front.
+    pub fn row(&self, key: &Key, round: Option<u64>) -> Result<RowAnswer<'_>, LookRefusal>
+        requires { IsStates self.now }
+        ensures looks { Looks (held self.now) key.now round result }
+        ensures kept { IfOk result (λ a. IfSome (option_copied a.row) (IsKept key.now)) }
+    {
+        let front = self.front();
+        let round = round.unwrap_or(front);
+        if front < round {
+            return Err(LookRefusal::TooNew { front });
+        }
+        Ok(RowAnswer {
+            front,
+            round,
+            level: self.deltas.header_level(round),
+            row: self.row_after(key, round),
+        })
+    }
+
+    // The row under a key after a round that is at most the front.
+    fn row_after(&self, key: &Key, round: u64) -> Option<&Row>
+        requires states { IsStates self.now }
+        requires within { round ≤ length (held self.now).blocks }
+        ensures row { option_copied result ≡ option_map (λ s. s.row) (row_at (held self.now).origin (held self.now).blocks round key.now) }
+        ensures kept { IfSome (option_copied result) (IsKept key.now) }
+    {
+        match self.deltas.find(key, round) {
+            Some((_, row)) => row.as_ref(),
+            None => match self.base.get(key) {
+                Some(stored) => Some(&stored.row),
+                None => None,
+            },
+        }
     }
 
     /// The account after a round, no round being the last one, or why it is not shown.
@@ -127,15 +150,7 @@ impl States {
         ensures sound { IsSound result }
         ensures looked { result ≡ looked (held self.now).origin (held self.now).blocks who.now round }
     {
-        let front = self.front();
-        let round = round.unwrap_or(front);
-        if front < round {
-            return too_new(front);
-        }
-        let rows = rows_at(&self.rows, &self.accepted, round as usize);
-        let level = level_at(&self.first, &self.accepted, round as usize);
-        let key = Key::Account(*who);
-        account_answer(front, round, level, row_under(rows, &key))
+        look_answer(self.row(&Key::Account(*who), round))
     }
 
     /// Answers a request, whose body has these bytes. A posted block that is accepted is held from
@@ -152,7 +167,10 @@ impl States {
                 let answer = self.look(address, *round);
                 self.told(answer)
             }
-            Request::Post => self.post(body),
+            Request::Post => {
+                let answer = accept_answer(self.accept(body));
+                self.told(answer)
+            }
         }
     }
 
@@ -167,190 +185,160 @@ impl States {
         }
     }
 
-    // Answers posted bytes.
-    fn post(&mut self, body: &[u8]) -> Told
+    /// Accepts a block that these bytes spell, where it is the next one and follows the rules. It
+    /// is held from then on; one that is held already changes nothing, and so does a refused call.
+    pub fn accept(&mut self, bytes: &[u8]) -> Result<Accepted, AcceptRefusal>
         requires states { IsStates self.old }
-        requires short { length body.now < 2 ^ 31 }
+        requires short { length bytes.now < 2 ^ 31 }
         ensures states { IsStates self.new }
-        ensures sound { IsSound result.answer }
-        ensures answered { IsAnswered (held self.old) (held self.new) asks.Post body.now result }
+        ensures accepts { Accepts (held self.old) (held self.new) bytes.now result }
     {
-        match decode_block(self.alloc, body) {
-            Ok(block) => self.place(body, block),
-            Err(fault) => self.told(undecodable(fault)),
+        match decode_block(self.alloc, bytes) {
+            Ok(block) => self.place(bytes, block),
+            Err(fault) => Err(undecodable(fault)),
         }
     }
 
-    // Answers a block that the body spells.
-    fn place(&mut self, body: &[u8], block: Block) -> Told
+    // Accepts a block that the bytes spell.
+    fn place(&mut self, bytes: &[u8], block: Block) -> Result<Accepted, AcceptRefusal>
         requires states { IsStates self.old }
-        requires spelled { IsBlock body.now block }
+        requires spelled { IsBlock bytes.now block }
         ensures states { IsStates self.new }
-        ensures sound { IsSound result.answer }
-        ensures answered { IsAnswered (held self.old) (held self.new) asks.Post body.now result }
+        ensures accepts { Accepts (held self.old) (held self.new) bytes.now result }
     {
         let round = block.header.round;
         let front = self.front();
         if round == 0 || front < round - 1 {
-            return self.told(wrong_round(front));
+            return Err(AcceptRefusal::WrongRound {
+                next: front + 1,
+                front,
+            });
         }
         if round <= front {
-            let answer = self.repeated(body, round);
-            return self.told(answer);
+            return self.repeated(bytes, &block);
         }
-        self.follow(body, block)
+        self.follow(bytes, block)
     }
 
-    // Answers a block of a round that a block is kept of.
-    fn repeated(&self, body: &[u8], round: u64) -> Answer
+    // Compares a block with the one of its round.
+    fn repeated(&self, bytes: &[u8], block: &Block) -> Result<Accepted, AcceptRefusal>
+        requires spelled { IsBlock bytes.now block.now }
         requires states { IsStates self.now }
-        requires round { (0 < round) × (round ≤ length (held self.now).blocks) }
-        ensures sound { IsSound result }
-        ensures compared { IsRepeated (held self.now).blocks body.now round result ⊎ (result ≡ memory_answer) }
+        requires round { (0 < block.now.header.round) × (block.now.header.round ≤ length (held self.now).blocks) }
+        ensures { Accepts (held self.now) (held self.now) bytes.now result }
     {
+        let round = block.header.round;
         let front = self.front();
-        let kept = &self.accepted[round as usize - 1];
-        if kept.bytes.as_slice() == body {
-            return taken(front, round);
+        let kept = &self.kept[round as usize - 1];
+        if kept.bytes.as_slice() == bytes {
+            return Ok(Accepted { front, round });
         }
         match header_hash(self.alloc, &kept.block.header) {
-            Ok(hash) => fork(front, hash),
-            Err(_) => memory(),
+            Ok(hash) => Err(AcceptRefusal::Fork { kept: hash, front }),
+            Err(_) => Err(AcceptRefusal::Memory),
         }
     }
 
-    // Answers a block of the next round that the body spells.
-    fn follow(&mut self, body: &[u8], block: Block) -> Told
+    // Accepts a block of the next round that the bytes spell.
+    fn follow(&mut self, bytes: &[u8], block: Block) -> Result<Accepted, AcceptRefusal>
         requires states { IsStates self.old }
-        requires spelled { IsBlock body.now block }
+        requires spelled { IsBlock bytes.now block }
         requires next { block.header.round ≡ suc (length (held self.old).blocks) }
         ensures states { IsStates self.new }
-        ensures sound { IsSound result.answer }
-        ensures answered { IsAnswered (held self.old) (held self.new) asks.Post body.now result }
+        ensures accepts { Accepts (held self.old) (held self.new) bytes.now result }
     {
-        let front = self.front();
         if block.header.prev != self.before.hash {
-            return self.told(wrong_prev(front, self.before.hash));
+            return Err(AcceptRefusal::WrongPrev {
+                kept: self.before.hash,
+                front: self.front(),
+            });
         }
         if !is_built(&block) {
-            return self.told(not_built());
+            return Err(AcceptRefusal::NotBuilt);
         }
-        let rows = rows_at(&self.rows, &self.accepted, self.accepted.len());
-        match step_rows(self.alloc, rows, &self.before, &self.tail, &block) {
-            Ok(next) => self.take(body, block, next),
-            Err(refusal) => self.told(refused(front, refusal)),
+        match catch_up(&mut self.newest, &self.deltas) {
+            Ok(()) => self.judge(bytes, block),
+            Err(_) => Err(AcceptRefusal::Memory),
         }
     }
 
-    // Takes a block that leads to these rows and totals.
-    fn take(&mut self, body: &[u8], block: Block, next: Stepped) -> Told
+    // Accepts a block that goes on from the last one, where it follows the rules.
+    fn judge(&mut self, bytes: &[u8], block: Block) -> Result<Accepted, AcceptRefusal>
         requires states { IsStates self.old }
-        requires spelled { IsBlock body.now block }
+        requires newest { IsNewest self.old }
+        requires spelled { IsBlock bytes.now block }
         requires next { block.header.round ≡ suc (length (held self.old).blocks) }
-        requires leads { Leads (held self.old) block next.rows next.totals }
-        requires kept { All (λ e. IsKept e.0 e.1.row) next.rows.entries }
+        requires continues { block.header.prev ≡ self.old.before.hash }
+        requires built { is_built block ≡ true }
         ensures states { IsStates self.new }
-        ensures sound { IsSound result.answer }
-        ensures answered { IsAnswered (held self.old) (held self.new) asks.Post body.now result }
+        ensures accepts { Accepts (held self.old) (held self.new) bytes.now result }
     {
-        match self.append(body, block, next) {
-            Ok(()) => {
-                let front = self.front();
-                self.told(taken(front, front))
-            }
-            Err(_) => self.told(memory()),
+        match evaluate(self.alloc, &self.newest, &self.before, &self.tail, &block) {
+            Ok(evaluated) => self.take(bytes, block, evaluated),
+            Err(refusal) => Err(unfit(self.front(), refusal)),
         }
     }
 
-    // Keeps a block that leads to these rows and totals.
-    fn append(&mut self, body: &[u8], block: Block, next: Stepped) -> Result<(), AllocError>
+    // Takes a block that leads on.
+    fn take(
+        &mut self,
+        bytes: &[u8],
+        block: Block,
+        evaluated: Evaluated,
+    ) -> Result<Accepted, AcceptRefusal>
         requires states { IsStates self.old }
-        requires spelled { IsBlock body.now block }
-        requires leads { Leads (held self.old) block next.rows next.totals }
-        requires kept { All (λ e. IsKept e.0 e.1.row) next.rows.entries }
+        requires newest { IsNewest self.old }
+        requires spelled { IsBlock bytes.now block }
+        requires next { block.header.round ≡ suc (length (held self.old).blocks) }
+        requires leads { Leads (held self.old) block evaluated }
+        ensures states { IsStates self.new }
+        ensures accepts { Accepts (held self.old) (held self.new) bytes.now result }
+    {
+        let round = block.header.round;
+        match self.append(bytes, block, evaluated) {
+            Ok(()) => Ok(Accepted {
+                front: round,
+                round,
+            }),
+            Err(_) => Err(AcceptRefusal::Memory),
+        }
+    }
+
+    // Keeps a block that leads on.
+    fn append(&mut self, bytes: &[u8], block: Block, evaluated: Evaluated) -> Result<(), AllocError>
+        requires states { IsStates self.old }
+        requires newest { IsNewest self.old }
+        requires spelled { IsBlock bytes.now block }
+        requires next { block.header.round ≡ suc (length (held self.old).blocks) }
+        requires leads { Leads (held self.old) block evaluated }
         ensures ok { OnOk result (held self.new ≡ record (held self.old) { blocks = (held self.old).blocks ++ block ∷ [] }) }
         ensures err { OnErr result (held self.new ≡ held self.old) }
         ensures states { IsStates self.new }
     {
-        let header = block.header.copy(self.alloc)?;
-        let hash = header_hash(self.alloc, &header)?;
-        let bytes = body.to_vec(self.alloc)?;
+        let header = evaluated.delta.header.copy(self.alloc)?;
+        let hash = evaluated.delta.hash;
+        let totals = evaluated.delta.totals;
+        let bytes = bytes.to_vec(self.alloc)?;
+        let next = KeptBlock { block, bytes };
         keep(
-            self.alloc,
-            &mut self.accepted,
+            &mut self.kept,
             &mut self.tail,
-            Accepted {
-                block,
-                bytes,
-                rows: next.rows,
-            },
+            &mut self.deltas,
+            next,
+            evaluated,
         )?;
         self.before.header = header;
         self.before.hash = hash;
-        self.before.totals = next.totals;
+        self.before.totals = totals;
         Ok(())
     }
 }
 
-// What a fault of the reader is shown as.
-fn fault_of(fault: &GenesisFault) -> OpenFault
-    ensures { result ≡ fault_of fault.now }
+// The rows of a genesis.
+fn first_rows(alloc: Global, accounts: &[GenesisRow]) -> Result<KeptRows, AllocError>
+    requires { All (λ a. AccountInRange a.row) accounts.now }
+    ensures { IfOk result (λ rows. rows ≡ start_rows accounts.now) }
 {
-    match fault {
-        GenesisFault::Memory => OpenFault::Memory,
-        _ => OpenFault::Genesis {
-            number: fault.number(),
-        },
-    }
-}
-
-// Appends a block to what is kept, and its transactions to the tail: both, or neither.
-fn keep(
-    alloc: Global,
-    accepted: &mut Vec<Accepted>,
-    tail: &mut Tail,
-    next: Accepted,
-) -> Result<(), AllocError>
-    ensures ok { OnOk result ((accepted.new.items ≡ accepted.old.items ++ next ∷ []) × (tail.new ≡ tail.old ++ map (λ i. entry_of i.txn) next.block.items)) }
-    ensures err { OnErr result ((accepted.new.items ≡ accepted.old.items) × (tail.new ≡ tail.old)) }
-{
-    let place = accepted.len();
-    accepted.push(next)?;
-    match tail.extend(alloc, &accepted[place].block) {
-        Ok(()) => Ok(()),
-        Err(refused) => {
-            accepted.pop();
-            Err(refused)
-        }
-    }
-}
-
-fn rows_at<'a>(
-    rows: &'a BTreeMap<Key, Stored>,
-    accepted: &'a [Accepted],
-    n: usize,
-) -> &'a BTreeMap<Key, Stored>
-    requires { n ≤ length accepted.now }
-    ensures { result.now ≡ rows_at rows.now accepted.now n }
-{
-    if n == 0 {
-        return rows;
-    }
-    &accepted[n - 1].rows
-}
-
-fn row_under<'a>(rows: &'a BTreeMap<Key, Stored>, key: &Key) -> Option<&'a Stored>
-    ensures { option_copied result ≡ tree.get key_cmp rows.now key.now }
-{
-    rows.get(key)
-}
-
-fn level_at(first: &Header, accepted: &[Accepted], n: usize) -> u64
-    requires { n ≤ length accepted.now }
-    ensures { result ≡ (header_at first.now accepted.now n).level }
-{
-    if n == 0 {
-        return first.level;
-    }
-    accepted[n - 1].block.header.level
+    let rows = start_rows(alloc, accounts)?;
+    Ok(KeptRows::new(alloc, rows))
 }

@@ -1,17 +1,14 @@
-ghost use Rattle.std.specs.Prelude.{◌≤◌, All, IsTrue};
+ghost use Rattle.std.specs.Prelude.{◌≤◌, ◌^◌, All};
 ghost use Rattle.al_rows.specs.Rows.{AccountInRange};
-ghost use Rattle.al_eval.specs.State.{IsPay};
 
 use crate::genesis::OTHER;
 use al_base::{Address, Hash, Key, Status};
-use al_block::{decode_block, header_hash};
-use al_eval::{
-    Before, EvalRefusal, Genesis, GenesisRow, Tail, start_rows, start_totals, step_rows,
-};
-use al_rewards::Count;
-use al_rows::{AccountRow, Row, Stored};
-use al_txn::{Body, Item};
-use std::collections::BTreeMap;
+use al_block::{Block, decode_block, header_hash};
+use al_deltas::KeptRows;
+use al_eval::{Before, EvalRefusal, Genesis, GenesisRow, Tail, eval, start_rows, start_totals};
+use al_rewards::{Count, Totals};
+use al_rows::{AccountRow, Never, Row};
+use std::alloc::{AllocError, Global};
 use std::test::*;
 
 /// Block 1 of the other chain: the account of bytes 3 pays 300,000 microAlgos to that of bytes 4,
@@ -40,18 +37,36 @@ fn account(byte: u8, status: Status, balance: u64) -> GenesisRow
     }
 }
 
-// Whether the one entry is a payment.
-fn is_payment(items: &[Item]) -> bool
-    ensures { IsTrue result → All (λ i. IsPay i.txn.body) items.now }
+// The rows of accounts.
+fn rows_of(alloc: Global, accounts: &[GenesisRow]) -> Result<KeptRows, AllocError>
+    requires { All (λ a. AccountInRange a.row) accounts.now }
 {
-    match items {
-        [item] => matches!(&item.txn.body, Body::Pay(_)),
-        _ => false,
+    let rows = start_rows(alloc, accounts)?;
+    Ok(KeptRows::new(alloc, rows))
+}
+
+// Lets rows follow a block, which leaves these totals.
+fn follow(
+    alloc: Global,
+    rows: &mut KeptRows,
+    before: &Before,
+    tail: &Tail,
+    block: &Block,
+) -> Result<Totals, EvalRefusal<Never>>
+    requires { block.now.header.round ≤ 2 ^ 62 }
+{
+    let delta = match eval(alloc, &mut rows.view(), before, tail, block) {
+        Ok(delta) => delta,
+        Err(refusal) => return Err(refusal),
+    };
+    match rows.apply(&delta) {
+        Ok(()) => Ok(delta.totals),
+        Err(_) => Err(EvalRefusal::Memory),
     }
 }
 
 // The balance of the account whose address has these bytes.
-fn balance_of(rows: &BTreeMap<Key, Stored>, byte: u8) -> u64 {
+fn balance_of(rows: &KeptRows, byte: u8) -> u64 {
     match rows.get(&Key::Account(Address([byte; 32]))) {
         Some(stored) => match &stored.row {
             Row::Account(row) => row.balance,
@@ -70,9 +85,9 @@ fn a_payment_is_applied_once(rt: HostRuntime) -> Result<(), Fail> {
         account(3, Status::Offline, 2_500_000),
     ];
     assert!(rt; genesis.accounts.as_slice() == accounts.as_slice());
-    let rows = start_rows(rt.alloc(), &accounts)?;
+    let mut rows = rows_of(rt.alloc(), &accounts)?;
     let block = decode_block(rt.alloc(), BLOCK)?;
-    assert!(rt; is_payment(block.items.as_slice()) && block.header.round <= 1);
+    assert!(rt; block.header.round <= 1);
     let hash = header_hash(rt.alloc(), &genesis.header)?;
     let before = Before {
         chain: genesis.chain,
@@ -95,23 +110,20 @@ fn a_payment_is_applied_once(rt: HostRuntime) -> Result<(), Fail> {
         }
     );
     let mut tail = Tail::new(rt.alloc());
-    let next = step_rows(rt.alloc(), &rows, &before, &tail, &block)
+    let totals = follow(rt.alloc(), &mut rows, &before, &tail, &block)
         .ok()
         .ok_or("the rows after the block")?;
     for (byte, balance) in [(1, 1_000), (2, 100_000), (3, 2_199_000), (4, 300_000)] {
-        assert_eq!(rt; balance_of(&next.rows, byte), balance, "of {byte}");
+        assert_eq!(rt; balance_of(&rows, byte), balance, "of {byte}");
     }
     let offline = Count {
         money: 2_499_000,
         units: 2,
     };
-    assert_eq!(rt;
-        (next.totals.offline, next.totals.apart.money),
-        (offline, 101_000)
-    );
+    assert_eq!(rt; (totals.offline, totals.apart.money), (offline, 101_000));
     tail.extend(rt.alloc(), &block)?;
     assert!(rt; tail.has_id(1_000, &ID));
-    let again = step_rows(rt.alloc(), &rows, &before, &tail, &block).err();
+    let again = follow(rt.alloc(), &mut rows, &before, &tail, &block).err();
     assert!(rt;
         matches!(
             again,
@@ -132,7 +144,7 @@ fn the_pool_is_short(rt: HostRuntime) -> Result<(), Fail> {
         account(2, Status::NotParticipating, 100_000),
         account(3, Status::Offline, 2_500_000),
     ];
-    let rows = start_rows(rt.alloc(), &accounts)?;
+    let mut rows = rows_of(rt.alloc(), &accounts)?;
     let mut header = genesis.header;
     header.rate = 10;
     header.recalc = 9;
@@ -142,7 +154,7 @@ fn the_pool_is_short(rt: HostRuntime) -> Result<(), Fail> {
     block.header.rate = 10;
     block.header.recalc = 9;
     block.header.level = 5;
-    assert!(rt; is_payment(block.items.as_slice()) && block.header.round <= 1);
+    assert!(rt; block.header.round <= 1);
     let before = Before {
         chain: genesis.chain,
         header,
@@ -150,7 +162,7 @@ fn the_pool_is_short(rt: HostRuntime) -> Result<(), Fail> {
         totals: start_totals(&accounts),
     };
     let tail = Tail::new(rt.alloc());
-    let short = step_rows(rt.alloc(), &rows, &before, &tail, &block).err();
+    let short = follow(rt.alloc(), &mut rows, &before, &tail, &block).err();
     assert!(rt;
         matches!(
             short,

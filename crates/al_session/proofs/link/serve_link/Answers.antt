@@ -1,5 +1,5 @@
 use Rattle.std.proofs.Common.{rules, ◌≡◌, ◌∙◌, [], ◌∷◌, ◌++◌, refl, arith, length-append}
-use Rattle.al_states.specs.declared.states.Told.{Told}
+use Rattle.al_states.specs.declared.told.Told.{Told}
 use Rattle.al_states.specs.Keeping.{held}
 use Rattle.al_session.proofs.TakingLemmas.{request_length}
 use Rattle.al_session.proofs.ServeLemmas.{begins, took, finished, cut_short, source_failed, no_memory, spent, unreadable, refusal_failed, answered, goes_on, answer_failed, body_seen, rest_of, length_more}

@@ -1,7 +1,7 @@
 use Rattle.std.proofs.Common.{◌≡◌, ◌≤◌, ◌*◌, List, length}
 use Rattle.std.specs.List.{flat_map}
 use Rattle.al_http.specs.Requests.{Message, spell}
-use Rattle.al_states.specs.declared.states.Told.{Told}
+use Rattle.al_states.specs.declared.told.Told.{Told}
 use Rattle.al_session.specs.Connection.{Serving}
 use Rattle.al_states.specs.Keeping.{IsStates, held}
 use Rattle.al_session.proofs.link.serve_link.Given as goal

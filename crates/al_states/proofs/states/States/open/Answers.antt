@@ -1,5 +1,5 @@
 use Rattle.std.proofs.Common.{Err, sym, subst}
-use Rattle.al_states.specs.declared.states.OpenFault.{OpenFault}
+use Rattle.al_states.specs.declared.opening.OpenFault.{OpenFault}
 use Rattle.al_states.specs.Opening.{Opens}
 use Rattle.al_eval.proofs.Counted.{start_counted}
 use Rattle.al_eval.proofs.Firsts.{start_is_sound}

@@ -1,0 +1,9 @@
+//! An answer with the front at which it was given.
+use al_http::Answer;
+
+/// An answer, and the front at which it was given.
+#[derive(Debug, Drop)]
+pub struct Told {
+    pub front: u64,
+    pub answer: Answer,
+}
