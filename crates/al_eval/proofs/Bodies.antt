@@ -1,7 +1,7 @@
 -- What a body must keep, and that each body does.
 use Rattle.std.proofs.Common.{◌≡◌, ap, ◌∙◌, ℕ, ◌+◌, ◌≤◌, Result, Ok, Err, false, arith, not}
 use Rattle.al_rows.specs.Rows.{RowMap, account, no_address}
-use Rattle.al_rewards.specs.Pending.{max_balance}
+use Rattle.al_rows.specs.Limits.{max_balance}
 use Rattle.al_bodies.specs.declared.body.Body.{Body}
 use Rattle.al_txn.specs.declared.chain.Chain.{Chain}
 use Rattle.al_moves.specs.declared.rule.Rule.{Rule}

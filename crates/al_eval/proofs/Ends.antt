@@ -8,7 +8,7 @@ use Rattle.al_block.specs.declared.block.Block.{Block}
 use Rattle.al_block.specs.declared.header.Header.{Header}
 use Rattle.al_block.specs.Hashes.{header_hash_of}
 use Rattle.al_deltas.specs.declared.delta.RoundDelta.{RoundDelta}
-use Rattle.al_rewards.specs.Pending.{max_balance}
+use Rattle.al_rows.specs.Limits.{max_balance}
 use Rattle.al_rewards.specs.declared.totals.Totals.{Totals}
 use Rattle.al_rewards.specs.Totals.{AreTotals, all_units, capped, raised}
 use Rattle.al_rows.specs.declared.stored.Stored.{Stored}

@@ -17,7 +17,7 @@ use Rattle.al_block.specs.declared.header.Header.{Header}
 use Rattle.al_record.proofs.Order.{same_name}
 use Rattle.al_msgpack.specs.Rising.{rises}
 use Rattle.al_rewards.specs.Next.{least_pool}
-use Rattle.al_rewards.specs.Pending.{max_balance}
+use Rattle.al_rows.specs.Limits.{max_balance}
 use Rattle.al_rows.specs.declared.account.AccountRow.{AccountRow}
 use Rattle.al_rows.specs.declared.row.Row.{Row}
 use Rattle.al_rows.specs.declared.row.Row.TheVariants as row

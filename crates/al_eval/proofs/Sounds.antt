@@ -10,7 +10,8 @@ use Rattle.al_block.specs.declared.header.Field.TheVariants as field
 use Rattle.al_block.specs.declared.block.Block.{Block}
 use Rattle.al_rewards.specs.declared.state.RewardsState.{RewardsState}
 use Rattle.al_rewards.specs.Next.{least_pool, next_rewards}
-use Rattle.al_rewards.specs.Pending.{is_apart, max_balance}
+use Rattle.al_rewards.specs.Pending.{is_apart}
+use Rattle.al_rows.specs.Limits.{max_balance}
 use Rattle.al_rewards.specs.Totals.{all_units}
 use Rattle.al_rows.specs.declared.account.AccountRow.{AccountRow}
 use Rattle.al_rows.specs.declared.row.Row.TheVariants as row

@@ -17,7 +17,8 @@ use Rattle.al_block.specs.declared.block.Block.{Block}
 use Rattle.al_digest.specs.Digests.{digest_of}
 use Rattle.al_digest.specs.declared.hashing.Prefix.TheVariants as prefixes
 use Rattle.al_rewards.specs.Next.{least_pool}
-use Rattle.al_rewards.specs.Pending.{is_apart, max_balance}
+use Rattle.al_rewards.specs.Pending.{is_apart}
+use Rattle.al_rows.specs.Limits.{max_balance}
 use Rattle.al_rewards.specs.Totals.{AreTotals}
 use Rattle.al_rows.specs.declared.account.AccountRow.{AccountRow}
 use Rattle.al_rows.specs.declared.row.Row.{Row}

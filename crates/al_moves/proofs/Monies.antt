@@ -3,7 +3,8 @@ use Rattle.std.proofs.Common.{◌≡◌, ◌≢◌, ℕ, ◌+◌, ◌-◌, ◌*�
 use Rattle.std.specs.Option.{option_or}
 use Rattle.al_base.specs.declared.account.Special.{Special}
 use Rattle.al_rewards.specs.declared.share.Share.{Share}
-use Rattle.al_rewards.specs.Pending.{is_apart, pending, max_balance}
+use Rattle.al_rewards.specs.Pending.{is_apart, pending, reward_unit}
+use Rattle.al_rows.specs.Limits.{max_balance}
 use Rattle.al_rows.proofs.Sames.{account_true}
 use Rattle.al_rows.specs.Rows.{min_balance, same_row}
 use Rattle.al_rows.specs.Finite.{first_some}
@@ -43,13 +44,13 @@ or_true false = refl
 pub none_pending : (level : ℕ) (s : Share) → s.base ≡ level → pending level s ≡ 0
 unfolding pending
 none_pending level s e =
-    ap (λ n. cond (is_apart s.status || nat_le level n) 0 (min max_balance (s.balance / 1000000 * (level - s.base)))) e
-    ∙ ap (λ c. cond (is_apart s.status || c) 0 (min max_balance (s.balance / 1000000 * (level - s.base)))) (nat_le_itself level)
-    ∙ ap (λ c. cond c 0 (min max_balance (s.balance / 1000000 * (level - s.base)))) (or_true (is_apart s.status))
+    ap (λ n. cond (is_apart s.status || nat_le level n) 0 (min max_balance (s.balance / reward_unit * (level - s.base)))) e
+    ∙ ap (λ c. cond (is_apart s.status || c) 0 (min max_balance (s.balance / reward_unit * (level - s.base)))) (nat_le_itself level)
+    ∙ ap (λ c. cond c 0 (min max_balance (s.balance / reward_unit * (level - s.base)))) (or_true (is_apart s.status))
 
 pub pending_apart : (level : ℕ) (s : Share) → is_apart s.status ≡ true → pending level s ≡ 0
 unfolding pending
-pending_apart level s e = ap (λ b. cond (b || nat_le level s.base) 0 (min max_balance (s.balance / 1000000 * (level - s.base)))) e
+pending_apart level s e = ap (λ b. cond (b || nat_le level s.base) 0 (min max_balance (s.balance / reward_unit * (level - s.base)))) e
 
 worth_credited : (level : ℕ) (r : AccountRow) → (credited level r).balance ≡ worth level (row.Account r)
 worth_credited level r = by_test (is_apart r.status) refl
@@ -69,7 +70,7 @@ worth_with level new r = by_test (is_apart r.status) refl
 empty_pending : (level : ℕ) (s : Share) → s.balance ≡ 0 → pending level s ≡ 0
 unfolding pending
 empty_pending level s e =
-    let z : min max_balance (s.balance / 1000000 * (level - s.base)) ≡ 0 = ap (λ n. min max_balance (n / 1000000 * (level - s.base))) e ∙ ap (min max_balance) (zero-mul (level - s.base)) in
+    let z : min max_balance (s.balance / reward_unit * (level - s.base)) ≡ 0 = ap (λ n. min max_balance (n / reward_unit * (level - s.base))) e ∙ ap (min max_balance) (zero-mul (level - s.base)) in
     ap (cond (is_apart s.status || nat_le level s.base) 0) z ∙ same (is_apart s.status || nat_le level s.base)
   where
     same : (b : Bool) → cond {A = ℕ} b 0 0 ≡ 0
@@ -316,24 +317,24 @@ moves_are_fair = record { moved = moved_is; paid = paid_is; rekeyed = rekeyed_is
 
 -- ---- the level rises
 
-pending_is : (level : ℕ) (s : Share) → is_apart s.status ≡ false → s.base ≤ level → s.balance / 1000000 * (level - s.base) ≤ max_balance → pending level s ≡ s.balance / 1000000 * (level - s.base)
+pending_is : (level : ℕ) (s : Share) → is_apart s.status ≡ false → s.base ≤ level → s.balance / reward_unit * (level - s.base) ≤ max_balance → pending level s ≡ s.balance / reward_unit * (level - s.base)
 unfolding pending
-pending_is level s apart low few = ap (λ b. cond (b || nat_le level s.base) 0 (min max_balance (s.balance / 1000000 * (level - s.base)))) apart ∙ by_test (nat_le level s.base) refl
+pending_is level s apart low few = ap (λ b. cond (b || nat_le level s.base) 0 (min max_balance (s.balance / reward_unit * (level - s.base)))) apart ∙ by_test (nat_le level s.base) refl
   where
-    by_test : (b : Bool) → nat_le level s.base ≡ b → cond b 0 (min max_balance (s.balance / 1000000 * (level - s.base))) ≡ s.balance / 1000000 * (level - s.base)
+    by_test : (b : Bool) → nat_le level s.base ≡ b → cond b 0 (min max_balance (s.balance / reward_unit * (level - s.base))) ≡ s.balance / reward_unit * (level - s.base)
     by_test true t =
         let le : level ≤ s.base = leb-true level s.base t in
         let z : level - s.base ≡ 0 = omega arith in
-        sym (ap (λ n. s.balance / 1000000 * n) z ∙ mul-zero (s.balance / 1000000))
+        sym (ap (λ n. s.balance / reward_unit * n) z ∙ mul-zero (s.balance / reward_unit))
     by_test false t = omega arith
 
 pub worth_raised : (level rise : ℕ) (r : AccountRow) → IsExact level rise r → worth (level + rise) (row.Account r) ≡ worth level (row.Account r) + rise * units (row.Account r)
 worth_raised level rise r exact = by_status (is_apart r.status) refl
   where
-    by_status : (b : Bool) → is_apart r.status ≡ b → r.balance + earned (level + rise) r ≡ r.balance + earned level r + rise * cond b 0 (r.balance / 1000000)
+    by_status : (b : Bool) → is_apart r.status ≡ b → r.balance + earned (level + rise) r ≡ r.balance + earned level r + rise * cond b 0 (r.balance / reward_unit)
     by_status true e = omega (arith, pending_apart (level + rise) (share_of r) e, pending_apart level (share_of r) e, mul-zero rise)
     by_status false e =
-        let u = r.balance / 1000000 in
+        let u = r.balance / reward_unit in
         let low : r.base ≤ level = (exact e).0 in
         let few : u * (level + rise - r.base) ≤ max_balance = (exact e).1 in
         let split : level + rise - r.base ≡ (level - r.base) + rise = omega arith in

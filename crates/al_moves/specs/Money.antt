@@ -10,7 +10,8 @@ use Rattle.al_base.specs.declared.account.Status.{Status}
 use Rattle.al_base.specs.declared.account.Status.TheVariants.{Offline, Online, NotParticipating}
 use Rattle.al_base.specs.declared.address.Address.{Address}
 use Rattle.al_base.specs.declared.key.Key.{Key}
-use Rattle.al_rewards.specs.Pending.{is_apart, max_balance}
+use Rattle.al_rewards.specs.Pending.{is_apart, reward_unit}
+use Rattle.al_rows.specs.Limits.{max_balance}
 use Rattle.al_rewards.specs.declared.share.Share.{Share}
 use Rattle.al_rewards.specs.Totals.{all_units, and_share, capped_totals, raised, without_share}
 use Rattle.al_rewards.specs.declared.totals.Count.{Count}
@@ -50,10 +51,10 @@ pub record MovesAreFair : Type 0 where
 
 -- an account whose rewards are counted exactly at a higher level: its base is at most the level, and nothing is cut off
 abbrev pub IsExact : ℕ → ℕ → AccountRow → Type 0
-IsExact level rise r = is_apart r.status ≡ false → (r.base ≤ level) × (r.balance / 1000000 * (level + rise - r.base) ≤ max_balance)
+IsExact level rise r = is_apart r.status ≡ false → (r.base ≤ level) × (r.balance / reward_unit * (level + rise - r.base) ≤ max_balance)
 
 abbrev pub units : Row → ℕ
-units (row.Account r) = if is_apart r.status then 0 else r.balance / 1000000
+units (row.Account r) = if is_apart r.status then 0 else r.balance / reward_unit
 units (row.Asset a) = 0
 units (row.App a) = 0
 units (row.Box b) = 0
@@ -73,7 +74,7 @@ money_at level status (row.App a) = 0
 money_at level status (row.Box b) = 0
 
 abbrev pub units_at : Status → Row → ℕ
-units_at status (row.Account r) = if same_status r.status status then r.balance / 1000000 else 0
+units_at status (row.Account r) = if same_status r.status status then r.balance / reward_unit else 0
 units_at status (row.Asset a) = 0
 units_at status (row.App a) = 0
 units_at status (row.Box b) = 0

@@ -14,7 +14,8 @@ use Rattle.al_base.specs.declared.key.Key.{Key}
 use Rattle.al_base.specs.declared.key.Key.TheVariants as key
 use Rattle.al_base.specs.Keys.{key_cmp}
 use Rattle.al_rewards.specs.declared.share.Share.{Share}
-use Rattle.al_rewards.specs.Pending.{is_apart, pending, max_balance}
+use Rattle.al_rewards.specs.Pending.{is_apart, pending}
+use Rattle.al_rows.specs.Limits.{max_balance}
 use Rattle.al_rows.specs.declared.account.AccountRow.{AccountRow}
 use Rattle.al_rows.specs.declared.row.Row.{Row}
 use Rattle.al_rows.specs.Finite.{set_at, or_below, first_some}

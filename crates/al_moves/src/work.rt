@@ -5,8 +5,8 @@ ghost use Rattle.std.specs.BTreeMap.{is_at};
 ghost use Rattle.std.specs.FinMap.{get};
 ghost use Rattle.al_base.specs.Causes.{Rose};
 ghost use Rattle.al_base.specs.Keys.{key_cmp};
-ghost use Rattle.al_rewards.specs.Pending.{max_balance};
 ghost use Rattle.al_rows.specs.Finite.{set_at, or_below, overlaid};
+ghost use Rattle.al_rows.specs.Limits.{max_balance};
 ghost use Rattle.al_rows.specs.Rows.{AccountInRange, CountsInRange, InRange, IsKept, RowMap, account, creator_of, same_row};
 ghost use Rattle.al_moves.specs.Money.{IsWithin, counts};
 ghost use Rattle.al_moves.specs.Moves.{AreChanges, change_of, checked, closed, closed_at, credited, give, has_no_counts, moved, paid, paid_amount, paid_close, put_account, rekeyed, take_in};
@@ -20,8 +20,10 @@ use crate::minimum::{earned, first_shortfall};
 use crate::totals::totals_of;
 use crate::{Rule, Stop};
 use al_base::{Address, Key, Special, Status};
-use al_rewards::{MAX_BALANCE, Totals};
-use al_rows::{AccountRow, Change, Changes, Row, RowView, ViewFault, account_in, same_row};
+use al_rewards::Totals;
+use al_rows::{
+    AccountRow, Change, Changes, MAX_BALANCE, Row, RowView, ViewFault, account_in, same_row,
+};
 use al_txn::Pay;
 use std::alloc::{AllocError, Global};
 use std::collections::BTreeMap;

@@ -1,4 +1,5 @@
 ghost use Rattle.std.specs.Prelude.{◌≤◌, All, IsTrue};
+ghost use Rattle.al_rows.specs.Limits.{max_balance};
 ghost use Rattle.al_rows.specs.Rows.{AccountInRange};
 ghost use Rattle.al_eval.specs.State.{IsPay};
 
@@ -27,7 +28,7 @@ pub(crate) const ID: Hash = [
 
 // An account of the other chain's genesis.
 fn account(byte: u8, status: Status, balance: u64) -> GenesisRow
-    requires { balance ≤ 10000000000000000 }
+    requires { balance ≤ max_balance }
     ensures { AccountInRange result.row }
 {
     GenesisRow {
