@@ -125,7 +125,7 @@ worth-le-money level m who = omega (arith, money_remove level m who)
 pub same_is : (a b : Address) → is_at (key_cmp (key.Account a)) (key.Account b) ≡ same_address a b
 same_is a b = sym (lists_ties nat_cmp unsigned_ties a.0 b.0)
 
-account-set : (m : RowMap) (a b : Address) (o : Option Row) → account (set_at m (key.Account a) o) b ≡ account_in (cond (same_address a b) o (get m (key.Account b)))
+pub account-set : (m : RowMap) (a b : Address) (o : Option Row) → account (set_at m (key.Account a) o) b ≡ account_in (cond (same_address a b) o (get m (key.Account b)))
 account-set m a b o = ap account_in (get-set m (key.Account a) o (key.Account b) ∙ ap (λ c. cond c o (get m (key.Account b))) (same_is a b))
 
 -- ---- the steps
@@ -181,7 +181,7 @@ moved_is level from to amount m = then_fair level m amount (give level from amou
 
 -- ---- what a step that was not refused has left
 
-then_ok : (due : Result RowMap Rule) (f : RowMap → Result RowMap Rule) (n : RowMap) → then_do due f ≡ Ok n → (k : RowMap) × (due ≡ Ok k) × (f k ≡ Ok n)
+pub then_ok : (due : Result RowMap Rule) (f : RowMap → Result RowMap Rule) (n : RowMap) → then_do due f ≡ Ok n → (k : RowMap) × (due ≡ Ok k) × (f k ≡ Ok n)
 then_ok (Ok k) f n e = (k, refl, e)
 then_ok (Err r) f n e = absurd (let x : Err r ≡ Ok n = e in cc)
 
@@ -189,7 +189,7 @@ pick_ok : (b : Bool) (r : Rule) (x : Result RowMap Rule) (n : RowMap) → (if b 
 pick_ok true r x n e = absurd (let y : Err r ≡ Ok n = e in cc)
 pick_ok false r x n e = e
 
-ok_same : (m n : RowMap) → ◌≡◌ {A = Result RowMap Rule} (Ok m) (Ok n) → m ≡ n
+pub ok_same : (m n : RowMap) → ◌≡◌ {A = Result RowMap Rule} (Ok m) (Ok n) → m ≡ n
 ok_same m n e = cc
 
 put_ok : (m : RowMap) (who : Address) (r : AccountRow) (n : RowMap) → put_account m who r ≡ Ok n → set_account m who r ≡ n

@@ -12,6 +12,8 @@ ghost use Rattle.al_moves.specs.Money.{IsWithin, counts};
 ghost use Rattle.al_moves.specs.Moves.{AreChanges, change_of, checked, closed, closed_at, credited, give, has_no_counts, moved, paid, paid_amount, paid_close, put_account, rekeyed, take_in};
 ghost use Rattle.al_moves.specs.Works.{Does, HasOneCreator, IsNoRule, Looks, changed, nonzero};
 
+mod puts;
+
 use crate::creator::creator_over;
 use crate::held::{
     Held, Unset, account_held, hold_account, row_held, set_held, set_viewed, viewed,
@@ -129,6 +131,15 @@ impl<V: RowView> Work<V> {
         ensures no_rule { IsNoRule result }
     {
         let row = nonzero(key, row);
+        self.put(key, row)
+    }
+
+    // Makes this the row under a key.
+    fn put(&mut self, key: &Key, row: Option<Row>) -> Result<(), Stop<V::Fault>>
+        requires { IfSome row (IsKept key.now) }
+        ensures done { Does V.tells (Ok (set_at self.old.now key.now row)) self.old self.new result }
+        ensures no_rule { IsNoRule result }
+    {
         match set_held(&mut self.rows, &mut self.started, key, row) {
             Ok(()) => Ok(()),
             Err(Unset::Memory) => Err(Stop::Memory),
