@@ -34,7 +34,8 @@ use Rattle.al_genesis.specs.declared.genesis.GenesisRow.{GenesisRow}
 use Rattle.al_genesis.specs.Genesis.{addresses_of, has_special, balance_of, money_of, first_row, status_of, interval_of}
 use Rattle.al_eval.specs.Next.{stored_at}
 use Rattle.al_eval.specs.Start.{with_account, with_accounts, start}
-use Rattle.al_eval.specs.Sound.{SoundRows, CountsAgree, ResourcesAgree, StartIsSound, holding_of, issued_of, owned, boxes_of, box_bytes_of, assets_held_in, assets_created_in, apps_created_in, apps_opted_in, extra_pages_in, uints_in, byte_slices_in}
+use Rattle.al_moves.specs.Resources.{CountsAgree, owned, boxes_of, box_bytes_of, assets_held_in, assets_created_in, apps_created_in, apps_opted_in, extra_pages_in, uints_in, byte_slices_in}
+use Rattle.al_eval.specs.Sound.{SoundRows, ResourcesAgree, StartIsSound, holding_of, issued_of}
 use Rattle.al_eval.proofs.Steadies.{Keeps, AllBased, AllInRange, counts_of, at_set, at_unless, no_zero, other_account, keeps_account, keeps_on, keeps_itself}
 use Rattle.al_eval.proofs.Agrees.{resources_agree, counts_agree}
 
