@@ -205,6 +205,16 @@ IsWork-view {t} {m} {es} {ss} n w same = record {
 
 -- ---- what changed since the start
 
+-- a work that holds nothing
+pub IsWork-new : (t : Bool) (m : RowMap) (es : List (Key × Held)) (ss : List (Key × Option Row)) → es ≡ [] → ss ≡ [] → IsWork t m es ss
+IsWork-new t m es ss none nothing = subst (λ (xs : List (Key × Held)). IsWork t m xs ss) (sym none) (subst (IsWork t m []) (sym nothing) (record {
+  told = λ e q. tt;
+  ranged = λ q. tt;
+  kept = λ q. tt;
+  has_row = λ q h. absurd (true≢false (sym h));
+  ordered = strictly {X = Option Row} [] tt;
+}))
+
 -- the start of a transaction
 pub IsWork-begin : {t : Bool} {m : RowMap} {es : List (Key × Held)} {ss : List (Key × Option Row)} (ts : List (Key × Option Row)) → IsWork t m es ss → ts ≡ [] → IsWork t m es ts
 IsWork-begin {t} {m} {es} {ss} ts w none = subst (IsWork t m es) (sym none) (record {

@@ -14,10 +14,8 @@ ghost use Rattle.al_moves.specs.Works.{Does, HasOneCreator, IsNoRule, Looks, cha
 
 mod puts;
 
-use crate::creator::creator_over;
-use crate::held::{
-    Held, Unset, account_held, hold_account, row_held, set_held, set_viewed, viewed,
-};
+use crate::creator::{Creators, creator_over, set_noted};
+use crate::held::{Held, account_held, hold_account, row_held, viewed};
 use crate::minimum::{earned, first_shortfall};
 use crate::totals::totals_of;
 use crate::{Rule, Stop};
@@ -43,10 +41,12 @@ pub struct Work<V: RowView> {
     special: Special,
     rows: BTreeMap<Key, Held>,
     started: Vec<(Key, Option<Row>)>,
+    creators: Creators,
 }
 
 impl<V: RowView> Model for Work<V> {
     ghost use Rattle.al_rows.specs.Finite.{overlaid};
+    ghost use Rattle.al_moves.specs.Creators.{AreNoted};
     ghost use Rattle.al_moves.specs.Works.{IsWork, Worked, nows};
     ghost use Rattle.std.specs.FinMap as map;
     ghost use Rattle.std.specs.Coded.{codes};
@@ -69,7 +69,7 @@ impl<V: RowView> Model for Work<V> {
       lender = V.lender w.view;
     } };
 
-    ghost invariant = { λ w. IsWork V.tells (V.rows w.view) w.rows.entries w.started.items };
+    ghost invariant = { λ w. IsWork V.tells (V.rows w.view) w.rows.entries w.started.items × AreNoted w.rows.entries w.creators };
 }
 
 impl<V: RowView> Work<V> {
@@ -85,6 +85,7 @@ impl<V: RowView> Work<V> {
             special,
             rows: BTreeMap::new(alloc),
             started: Vec::new(alloc),
+            creators: BTreeMap::new(alloc),
         }
     }
 
@@ -110,15 +111,15 @@ impl<V: RowView> Work<V> {
     }
 
     /// The creator of an asset or an application with the changes so far: the address whose row
-    /// of it has its params, and the least where there are more. It goes over the rows changed so
-    /// far. Nothing is said where two addresses had its params before the block, which no sound
-    /// state has.
+    /// of it has its params, and the least where there are more. It goes over no rows: it asks the
+    /// view, and looks up what is noted of the id. Nothing is said where two addresses had its
+    /// params before the block, which no sound state has.
     pub fn creator(&mut self, id: u64) -> Result<Option<Address>, Stop<V::Fault>>
         ensures looks { Looks V.tells self.old self.new result }
         ensures value { V.tells ≡ true → HasOneCreator self.old.block id → IfOk result (λ who. who ≡ creator_of self.old.now id) }
     {
         match self.view.creator(id) {
-            Ok(viewed) => Ok(creator_over(id, viewed, &self.rows)),
+            Ok(viewed) => Ok(creator_over(id, viewed, &self.creators, &self.rows)),
             Err(ViewFault::Failed(fault)) => Err(Stop::View(fault)),
             Err(ViewFault::Memory) => Err(Stop::Memory),
         }
@@ -140,18 +141,15 @@ impl<V: RowView> Work<V> {
         ensures done { Does V.tells (Ok (set_at self.old.now key.now row)) self.old self.new result }
         ensures no_rule { IsNoRule result }
     {
-        match set_held(&mut self.rows, &mut self.started, key, row) {
-            Ok(()) => Ok(()),
-            Err(Unset::Memory) => Err(Stop::Memory),
-            Err(Unset::Absent(row)) => set_viewed(
-                self.alloc,
-                &mut self.view,
-                &mut self.rows,
-                &mut self.started,
-                key,
-                row,
-            ),
-        }
+        set_noted(
+            self.alloc,
+            &mut self.view,
+            &mut self.rows,
+            &mut self.started,
+            &mut self.creators,
+            key,
+            row,
+        )
     }
 }
 
@@ -377,6 +375,7 @@ impl<V: RowView> Work<V> {
             round: _,
             special: _,
             started: _,
+            creators: _,
         } = self;
         (changes(alloc, rows), view)
     }
