@@ -21,7 +21,8 @@ use Rattle.al_rows.proofs.Keys.{keys_total, exact_keys}
 use Rattle.al_rows.proofs.Maps.{find-lookup}
 use Rattle.al_moves.specs.declared.creator.First.{First}
 use Rattle.al_moves.specs.declared.held.Held.{Held}
-use Rattle.al_moves.specs.Works.{at, now_at, nows, HasOneCreator}
+use Rattle.al_moves.specs.Held.{at, now_at, nows}
+use Rattle.al_moves.specs.Work.{HasOneCreator}
 use Rattle.al_moves.specs.Creators.{AreNoted, AreOthers, HasRoom, resource_of, IsFirst, IsLeast, IsNoted, IsWith, IsWithout, creates, creator_noted, lesser, shown, shows, unchanged}
 use Rattle.al_moves.proofs.Overlays.{at-nows, get-now, same_key, nows-ordered}
 use Rattle.al_moves.proofs.Firsts.{first_of, less, second_of, sorted}

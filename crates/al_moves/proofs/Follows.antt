@@ -23,9 +23,10 @@ use Rattle.al_rows.proofs.Maps.{total-set_at}
 use Rattle.al_rows.proofs.Sames.{account_true}
 use Rattle.al_moves.specs.declared.resource.Counts.{Counts}
 use Rattle.al_moves.specs.declared.rule.Rule.{Rule}
-use Rattle.al_moves.specs.Moves.{of_account, same_address, then_do}
+use Rattle.al_moves.specs.Rules.{of_account, then_do}
+use Rattle.al_moves.specs.Accounts.{same_address}
 use Rattle.al_moves.specs.Resources.{AreFew, CountsAgree, CountsFollow, app_account, apps_created_in, apps_opted_in, assets_created_in, assets_held_in, box_bytes_in, box_bytes_of, box_counts, boxes_of, byte_slices_in, counted_at, counts_at, counts_within, extra_pages_in, no_counts, of_local, of_params, one_if, owned, put_box, put_counted, put_counts, put_over, put_resource, recount, recounted, resource_counts, same_counts, uints_in}
-use Rattle.al_moves.specs.Works.{nonzero}
+use Rattle.al_moves.specs.Work.{nonzero}
 use Rattle.al_moves.proofs.Monies.{account-set, ok_same, same_is, then_ok}
 use Rattle.al_moves.proofs.Overlays.{get-set, same_key}
 

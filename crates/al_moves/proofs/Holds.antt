@@ -14,7 +14,7 @@ use Rattle.al_rows.specs.Finite.{or_below, overlaid, set_at}
 use Rattle.al_rows.specs.Rows.{AccountInRange, InRange, IsKept, RowMap, account, account_in}
 use Rattle.al_rows.proofs.Sames.{same_itself}
 use Rattle.al_moves.specs.declared.held.Held.{Held}
-use Rattle.al_moves.specs.Works.{at, IsWork, nows, put_first, with_row}
+use Rattle.al_moves.specs.Held.{at, IsWork, nows, put_first, with_row}
 use Rattle.al_moves.proofs.Firsts.{sorted}
 use Rattle.al_moves.proofs.Overlays.{IsWork-hold, IsWork-replace, IsWork-start, at-nows, at-put_first, get-now, is_there, itself_at, none-now, now_below, now_changed, nows-put, overlaid-put, set-same, start-kept, still_some}
 

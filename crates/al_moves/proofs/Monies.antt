@@ -27,7 +27,10 @@ use Rattle.al_rows.proofs.Keys.{keys_total, exact_keys}
 use Rattle.al_rows.proofs.Maps.{total-set_at, total-same, total-plus, total-times}
 use Rattle.al_moves.specs.declared.rule.Rule.{Rule}
 use Rattle.al_bodies.specs.declared.body.Pay.{Pay}
-use Rattle.al_moves.specs.Moves.{then_do, same_address, share_of, earned, credited, put_account, give, take_in, moved, has_no_counts, closed_at, closed, paid_amount, paid_close, paid, rekeyed, checked, unless_refused, first_shortfall, shortfall, lacking, of_account, too_little}
+use Rattle.al_moves.specs.Rules.{then_do, unless_refused, of_account, too_little}
+use Rattle.al_moves.specs.Accounts.{same_address, share_of, earned, credited, put_account, give, take_in, moved}
+use Rattle.al_moves.specs.Pay.{has_no_counts, closed_at, closed, paid_amount, paid_close, paid, rekeyed}
+use Rattle.al_moves.specs.Minimum.{checked, first_shortfall, shortfall, lacking}
 use Rattle.al_moves.specs.Money.{worth, money, IsFair, MovesAreFair, IsExact, units, RiseIsEarned}
 use Rattle.al_moves.proofs.Overlays.{get-set}
 

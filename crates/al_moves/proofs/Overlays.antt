@@ -15,7 +15,7 @@ use Rattle.al_rows.specs.Rows.{RowMap, InRange, IsKept, same_row}
 use Rattle.al_rows.proofs.Keys.{keys_total, exact_keys}
 use Rattle.al_rows.proofs.Maps.{get-overlaid, get-set_at, find-lookup}
 use Rattle.al_moves.specs.declared.held.Held.{Held}
-use Rattle.al_moves.specs.Works.{at, befores, IsWork, nows, put_first, with_row}
+use Rattle.al_moves.specs.Held.{at, befores, IsWork, nows, put_first, with_row}
 use Rattle.al_moves.proofs.Firsts.{first_of, less, second_of, sorted, strictly}
 
 pub get-now : (es : List (Key × Option Row)) (m : RowMap) (q : Key) → get (overlaid es m) q ≡ or_below (at es q) (get m q)

@@ -8,8 +8,8 @@ use Rattle.al_rows.specs.Rows.{RowMap}
 use Rattle.al_moves.specs.declared.rule.Rule.{Rule}
 use Rattle.al_moves.specs.declared.rule.Stop.{Stop}
 use Rattle.al_moves.specs.declared.rule.Stop.TheVariants as stop
-use Rattle.al_moves.specs.Moves.{then_do, unless_refused}
-use Rattle.al_moves.specs.Works.{Worked, IsFixed, Starts, Gives, IsCounted, Does, Looks, IsNoRule}
+use Rattle.al_moves.specs.Rules.{then_do, unless_refused}
+use Rattle.al_moves.specs.Work.{Worked, IsFixed, Starts, Gives, IsCounted, Does, Looks, IsNoRule}
 
 fixed-then : {t : Bool} {a b c : Worked} → IsFixed t a b → IsFixed t b c → IsFixed t a c
 fixed-then p q = record {

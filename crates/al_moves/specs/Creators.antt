@@ -14,7 +14,7 @@ use Rattle.al_rows.specs.declared.row.Row.{Row}
 use Rattle.al_rows.specs.Rows.{creator_at, has_params}
 use Rattle.al_moves.specs.declared.creator.First.{First}
 use Rattle.al_moves.specs.declared.held.Held.{Held}
-use Rattle.al_moves.specs.Works.{at, now_at, nows}
+use Rattle.al_moves.specs.Held.{at, now_at, nows}
 
 -- the creator that a row under a key shows, none where there is no row
 abbrev pub shown : ℕ → Key → Option Row → Option Address

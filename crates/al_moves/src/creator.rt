@@ -9,7 +9,8 @@ ghost use Rattle.al_rows.specs.Finite.{first_some};
 ghost use Rattle.al_moves.specs.Creators.{AreNoted, AreOthers, HasRoom, IsFirst, IsLeast, IsWith, IsWithout, resource_of, creates, creator_noted, lesser, shown, shows, unchanged};
 ghost use Rattle.al_rows.specs.Finite.{overlaid, set_at};
 ghost use Rattle.al_rows.specs.Rows.{IsKept};
-ghost use Rattle.al_moves.specs.Works.{IsCounted, IsNoRule, IsWork, now_at, nows};
+ghost use Rattle.al_moves.specs.Held.{IsWork, now_at, nows};
+ghost use Rattle.al_moves.specs.Work.{IsCounted, IsNoRule};
 
 use crate::Stop;
 use crate::held::{Held, is_held, set_row};

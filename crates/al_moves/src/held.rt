@@ -8,7 +8,8 @@ ghost use Rattle.al_base.specs.Keys.{key_cmp};
 ghost use Rattle.al_rows.specs.Finite.{overlaid, set_at};
 ghost use Rattle.al_rows.specs.Rows.{AccountInRange, InRange, IsKept, RowMap, account, account_in};
 ghost use Rattle.al_moves.specs.Creators.{AreOthers};
-ghost use Rattle.al_moves.specs.Works.{IsNoRule, IsCounted, IsWork, at, nows, put_first, with_row};
+ghost use Rattle.al_moves.specs.Held.{IsWork, at, nows, put_first, with_row};
+ghost use Rattle.al_moves.specs.Work.{IsNoRule, IsCounted};
 
 use crate::Stop;
 use al_base::{Address, Key};

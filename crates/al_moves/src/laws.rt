@@ -1,5 +1,6 @@
 //! Laws of the definitions.
-ghost use Rattle.al_moves.specs.Money.{MoneyIsCounted, MovesAreFair, RiseIsCounted, RiseIsEarned};
+ghost use Rattle.al_moves.specs.Money.{MovesAreFair, RiseIsEarned};
+ghost use Rattle.al_moves.specs.Totals.{MoneyIsCounted, RiseIsCounted};
 ghost use Rattle.al_moves.specs.Resources.{CountsFollow};
 
 /// No move makes or loses money, and none is refused by the most that a balance may be where all

@@ -3,8 +3,9 @@ ghost use Rattle.std.specs.Prelude.{◌≡◌, ◌^◌, ◌≤◌, Option, Some,
 ghost use Rattle.al_rows.specs.Finite.{first_some};
 ghost use Rattle.al_rows.specs.Limits.{max_balance};
 ghost use Rattle.al_rows.specs.Rows.{AccountInRange, InRange, IsKept};
-ghost use Rattle.al_moves.specs.Moves.{earned, lacking, share_of, shortfall};
-ghost use Rattle.al_moves.specs.Works.{at, now_at, nows};
+ghost use Rattle.al_moves.specs.Accounts.{earned, share_of};
+ghost use Rattle.al_moves.specs.Minimum.{lacking, shortfall};
+ghost use Rattle.al_moves.specs.Held.{at, now_at, nows};
 
 use crate::Rule;
 use crate::held::Held;

@@ -8,9 +8,13 @@ ghost use Rattle.al_base.specs.Keys.{key_cmp};
 ghost use Rattle.al_rows.specs.Finite.{set_at, or_below, overlaid};
 ghost use Rattle.al_rows.specs.Limits.{max_balance};
 ghost use Rattle.al_rows.specs.Rows.{AccountInRange, CountsInRange, InRange, IsKept, RowMap, account, creator_of, same_row};
-ghost use Rattle.al_moves.specs.Money.{IsWithin, counts};
-ghost use Rattle.al_moves.specs.Moves.{AreChanges, change_of, checked, closed, closed_at, credited, give, has_no_counts, moved, paid, paid_amount, paid_close, put_account, rekeyed, take_in};
-ghost use Rattle.al_moves.specs.Works.{Does, HasOneCreator, IsNoRule, Looks, changed, nonzero};
+ghost use Rattle.al_moves.specs.Money.{IsWithin};
+ghost use Rattle.al_moves.specs.Totals.{counts};
+ghost use Rattle.al_moves.specs.Accounts.{credited, give, moved, put_account, take_in};
+ghost use Rattle.al_moves.specs.Pay.{closed, closed_at, has_no_counts, paid, paid_amount, paid_close, rekeyed};
+ghost use Rattle.al_moves.specs.Minimum.{checked};
+ghost use Rattle.al_moves.specs.Changes.{AreChanges, change_of, changed};
+ghost use Rattle.al_moves.specs.Work.{Does, HasOneCreator, IsNoRule, Looks, nonzero};
 
 mod puts;
 
@@ -47,7 +51,8 @@ pub struct Work<V: RowView> {
 impl<V: RowView> Model for Work<V> {
     ghost use Rattle.al_rows.specs.Finite.{overlaid};
     ghost use Rattle.al_moves.specs.Creators.{AreNoted};
-    ghost use Rattle.al_moves.specs.Works.{IsWork, Worked, nows};
+    ghost use Rattle.al_moves.specs.Held.{IsWork, nows};
+    ghost use Rattle.al_moves.specs.Work.{Worked};
     ghost use Rattle.std.specs.FinMap as map;
     ghost use Rattle.std.specs.Coded.{codes};
     ghost use Rattle.al_base.specs.Keys.{key_cmp};
@@ -178,7 +183,7 @@ impl<V: RowView> Work<V> {
 
 impl<V: RowView> Work<V> {
     // An account gives an amount.
-    #[tactic(auto, unfolding(crate::specs::Moves::give))]
+    #[tactic(auto, unfolding(crate::specs::Accounts::give))]
     fn give(&mut self, who: &Address, amount: u64) -> Result<(), Stop<V::Fault>>
         ensures { Does V.tells (give self.old.level who.now amount self.old.now) self.old self.new result }
     {
@@ -196,7 +201,7 @@ impl<V: RowView> Work<V> {
     }
 
     // An account takes an amount in.
-    #[tactic(auto, unfolding(crate::specs::Moves::take_in))]
+    #[tactic(auto, unfolding(crate::specs::Accounts::take_in))]
     fn take_in(&mut self, who: &Address, amount: u64) -> Result<(), Stop<V::Fault>>
         ensures { Does V.tells (take_in self.old.level who.now amount self.old.now) self.old self.new result }
     {
@@ -214,7 +219,7 @@ impl<V: RowView> Work<V> {
     }
 
     /// Moves an amount from one account to another.
-    #[tactic(auto, unfolding(crate::specs::Moves::moved))]
+    #[tactic(auto, unfolding(crate::specs::Accounts::moved))]
     pub fn move_algos(
         &mut self,
         from: &Address,
@@ -240,7 +245,7 @@ impl<V: RowView> Work<V> {
     }
 
     // The whole rest goes to the close address, and then the row.
-    #[tactic(auto, unfolding(crate::specs::Moves::closed_at))]
+    #[tactic(auto, unfolding(crate::specs::Pay::closed_at))]
     fn close_at(&mut self, who: &Address, to: &Address, r: AccountRow) -> Result<(), Stop<V::Fault>>
         requires { AccountInRange r }
         ensures { Does V.tells (closed_at self.old.level who.now to.now r self.old.now) self.old self.new result }
@@ -252,7 +257,7 @@ impl<V: RowView> Work<V> {
         self.set(&Key::Account(*who), None)
     }
 
-    #[tactic(auto, unfolding(crate::specs::Moves::closed))]
+    #[tactic(auto, unfolding(crate::specs::Pay::closed))]
     fn close(&mut self, who: &Address, to: &Address) -> Result<(), Stop<V::Fault>>
         ensures { Does V.tells (closed self.old.level who.now to.now self.old.now) self.old self.new result }
     {
@@ -260,7 +265,7 @@ impl<V: RowView> Work<V> {
         self.close_at(who, to, r)
     }
 
-    #[tactic(auto, unfolding(crate::specs::Moves::paid_amount))]
+    #[tactic(auto, unfolding(crate::specs::Pay::paid_amount))]
     fn pay_amount(&mut self, who: &Address, p: &Pay) -> Result<(), Stop<V::Fault>>
         ensures { Does V.tells (paid_amount self.old.level who.now p.now self.old.now) self.old self.new result }
     {
@@ -270,7 +275,7 @@ impl<V: RowView> Work<V> {
         self.move_algos(who, &p.receiver, p.amount)
     }
 
-    #[tactic(auto, unfolding(crate::specs::Moves::paid_close))]
+    #[tactic(auto, unfolding(crate::specs::Pay::paid_close))]
     fn pay_close(&mut self, who: &Address, p: &Pay) -> Result<(), Stop<V::Fault>>
         ensures { Does V.tells (paid_close self.old.level who.now p.now self.old.now) self.old self.new result }
     {
@@ -281,7 +286,7 @@ impl<V: RowView> Work<V> {
     }
 
     /// The body of a payment.
-    #[tactic(auto, unfolding(crate::specs::Moves::paid))]
+    #[tactic(auto, unfolding(crate::specs::Pay::paid))]
     pub fn pay(&mut self, who: &Address, p: &Pay) -> Result<(), Stop<V::Fault>>
         ensures { Does V.tells (paid self.old.level who.now p.now self.old.now) self.old self.new result }
     {
@@ -302,7 +307,7 @@ impl<V: RowView> Work<V> {
 
     /// Sets who signs for an account, itself where that is its own address. A zero address
     /// changes nothing.
-    #[tactic(auto, unfolding(crate::specs::Moves::rekeyed))]
+    #[tactic(auto, unfolding(crate::specs::Pay::rekeyed))]
     pub fn rekey(&mut self, who: &Address, to: &Address) -> Result<(), Stop<V::Fault>>
         ensures { Does V.tells (rekeyed who.now to.now self.old.now) self.old self.new result }
     {

@@ -4,7 +4,7 @@ ghost use Rattle.std.specs.FinMap.{get};
 ghost use Rattle.al_rows.specs.Limits.{max_balance};
 ghost use Rattle.al_rows.specs.Rows.{InRange, IsKept};
 ghost use Rattle.al_moves.specs.Resources.{AreFew, counts_at, put_box, put_counted, put_counts, put_over, put_resource, recount};
-ghost use Rattle.al_moves.specs.Works.{Does, IsCounted, IsNoRule, Looks};
+ghost use Rattle.al_moves.specs.Work.{Does, IsCounted, IsNoRule, Looks};
 
 use super::{Work, nonzero};
 use crate::held::viewed;

@@ -6,7 +6,7 @@ use Rattle.al_rows.specs.Finite.{or_below}
 use Rattle.al_rows.proofs.Keys.{derived_order}
 use Rattle.al_moves.specs.declared.held.Held.{Held}
 use Rattle.al_moves.specs.Creators.{creates}
-use Rattle.al_moves.specs.Works.{at}
+use Rattle.al_moves.specs.Held.{at}
 use Rattle.al_moves.proofs.Overlays.{at-nows}
 use Rattle.al_moves.proofs.creator.creates_held.Goals as goal
 

@@ -1,7 +1,7 @@
 use Rattle.std.proofs.Common.{◌≡◌}
 use Rattle.al_rows.specs.Finite.{first_some}
 use Rattle.al_moves.specs.Creators.{shown}
-use Rattle.al_moves.specs.Works.{nows}
+use Rattle.al_moves.specs.Held.{nows}
 use Rattle.al_moves.proofs.creator.first_shown.Given as goal
 
 abbrev pub invariant-loop-key : goal.invariant-loop-key

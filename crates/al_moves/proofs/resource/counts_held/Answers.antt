@@ -5,7 +5,7 @@ use Rattle.al_rows.specs.Rows.{InRange}
 use Rattle.al_rows.proofs.Keys.{derived_order}
 use Rattle.al_moves.specs.declared.held.Held.{Held}
 use Rattle.al_moves.specs.Resources.{counts_at}
-use Rattle.al_moves.specs.Works.{at}
+use Rattle.al_moves.specs.Held.{at}
 use Rattle.al_moves.proofs.Overlays.{at-nows}
 use Rattle.al_moves.proofs.resource.counts_held.Goals as goal
 

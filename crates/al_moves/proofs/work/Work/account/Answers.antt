@@ -1,6 +1,7 @@
 use Rattle.std.proofs.Common.{◌∙◌, ap}
 use Rattle.al_rows.specs.Rows.{account}
-use Rattle.al_moves.specs.Works.{Worked, nows}
+use Rattle.al_moves.specs.Held.{nows}
+use Rattle.al_moves.specs.Work.{Worked}
 use Rattle.al_moves.proofs.Creators.{account_noted}
 use Rattle.al_moves.proofs.Holds.{account-held, not-held}
 use Rattle.al_moves.proofs.work.Work.account.Goals as goal

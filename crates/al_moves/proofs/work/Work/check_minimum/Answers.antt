@@ -1,7 +1,8 @@
 use Rattle.std.proofs.Common.{◌≡◌, ◌∙◌, sym, ap}
 use Rattle.al_rows.specs.Finite.{first_some}
-use Rattle.al_moves.specs.Moves.{first_shortfall, shortfall}
-use Rattle.al_moves.specs.Works.{Worked, now_at, nows}
+use Rattle.al_moves.specs.Minimum.{first_shortfall, shortfall}
+use Rattle.al_moves.specs.Held.{now_at, nows}
+use Rattle.al_moves.specs.Work.{Worked}
 use Rattle.al_moves.proofs.Overlays.{some-now}
 use Rattle.al_moves.proofs.Shortfalls.{first_shortfall-changed}
 use Rattle.al_moves.proofs.Steps.{asks-some, asks-none}
