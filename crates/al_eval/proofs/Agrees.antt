@@ -4,7 +4,8 @@ use Rattle.al_rows.specs.Rows.{RowMap, account}
 use Rattle.al_rows.specs.Limits.{max_balance}
 use Rattle.al_rows.specs.declared.row.Row.{Row}
 use Rattle.al_rows.specs.Finite.{total}
-use Rattle.al_moves.specs.Money.{money, counts}
+use Rattle.al_moves.specs.Money.{money}
+use Rattle.al_moves.specs.Totals.{counts}
 use Rattle.al_base.specs.declared.account.Special.{Special}
 use Rattle.al_base.specs.declared.address.Address.{Address}
 use Rattle.al_base.specs.declared.account.Status.TheVariants.{NotParticipating}

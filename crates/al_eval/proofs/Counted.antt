@@ -24,8 +24,8 @@ use Rattle.al_rows.specs.Rows.{RowMap, bare, is_zero, is_zero_account, no_accoun
 use Rattle.al_rows.proofs.Keys.{keys_total, exact_keys}
 use Rattle.al_rows.proofs.Maps.{get-map_entries}
 use Rattle.al_rows.proofs.Sames.{account_true}
-use Rattle.al_moves.specs.Moves.{share_of}
-use Rattle.al_moves.specs.Money.{counts, money_at, share_at, units_at}
+use Rattle.al_moves.specs.Accounts.{share_of}
+use Rattle.al_moves.specs.Totals.{counts, money_at, share_at, units_at}
 use Rattle.al_moves.proofs.Counts.{counts_fit, counts_put, counts_set}
 use Rattle.al_moves.proofs.Monies.{none_pending}
 use Rattle.al_moves.proofs.Overlays.{get-set}

@@ -14,9 +14,11 @@ use Rattle.al_rewards.specs.Totals.{AreTotals, all_units, capped, raised}
 use Rattle.al_rows.specs.declared.stored.Stored.{Stored}
 use Rattle.al_rows.specs.Rows.{RowMap, bare}
 use Rattle.al_txn.specs.declared.txn.Txn.{Txn}
-use Rattle.al_moves.specs.Moves.{then_do, AreChanges, change_of}
-use Rattle.al_moves.specs.Money.{IsWithin, counts, money}
-use Rattle.al_moves.specs.Works.{Worked}
+use Rattle.al_moves.specs.Rules.{then_do}
+use Rattle.al_moves.specs.Changes.{AreChanges, change_of}
+use Rattle.al_moves.specs.Money.{IsWithin, money}
+use Rattle.al_moves.specs.Totals.{counts}
+use Rattle.al_moves.specs.Work.{Worked}
 use Rattle.al_moves.proofs.Counts.{counts_fit, counts_raised, money_by, money_counted, total-le, units_by, units_within}
 use Rattle.al_eval.specs.declared.before.Before.{Before}
 use Rattle.al_eval.specs.declared.before.EvalRefusal.{EvalRefusal}

@@ -26,7 +26,7 @@ use Rattle.al_rows.specs.Finite.{set_at, total}
 use Rattle.al_rows.specs.Rows.{RowMap, bare, account, account_in, set_account, unless_zero, no_account}
 use Rattle.al_rows.proofs.Keys.{keys_total, exact_keys}
 use Rattle.al_rows.proofs.Maps.{get-map_entries, get-set_at}
-use Rattle.al_moves.specs.Moves.{same_address, share_of}
+use Rattle.al_moves.specs.Accounts.{same_address, share_of}
 use Rattle.al_moves.specs.Money.{worth, money}
 use Rattle.al_moves.proofs.Monies.{none_pending, money_set, same_is}
 use Rattle.al_genesis.specs.declared.genesis_fields.FirstAccount.{FirstAccount}

@@ -17,8 +17,8 @@ use Rattle.al_rows.proofs.Maps.{get-map_entries, find-lookup}
 use Rattle.al_rows.proofs.Sames.{row_true}
 use Rattle.al_rows.proofs.Views.{get-of_entries, get-bare, ranged-get, sorted}
 use Rattle.al_rows.specs.declared.change.Change.{Change}
-use Rattle.al_moves.specs.Moves.{AreChanges, change_of}
-use Rattle.al_moves.specs.Works.{at}
+use Rattle.al_moves.specs.Changes.{AreChanges, change_of}
+use Rattle.al_moves.specs.Held.{at}
 use Rattle.al_moves.proofs.Overlays.{turned_at, same_key}
 use Rattle.al_moves.proofs.Firsts.{each_found, all_more}
 use Rattle.al_eval.specs.Next.{IsNext, left_of, stored_at}

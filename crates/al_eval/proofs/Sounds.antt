@@ -17,7 +17,8 @@ use Rattle.al_rows.specs.declared.account.AccountRow.{AccountRow}
 use Rattle.al_rows.specs.declared.row.Row.TheVariants as row
 use Rattle.al_rows.specs.Finite.{total}
 use Rattle.al_rows.specs.Rows.{RowMap, bare, account, account_in, set_account, unless_zero}
-use Rattle.al_moves.specs.Money.{money, units, counts, IsExact}
+use Rattle.al_moves.specs.Money.{money, units, IsExact}
+use Rattle.al_moves.specs.Totals.{counts}
 use Rattle.al_eval.specs.declared.tail.Entry.{Entry}
 use Rattle.al_eval.specs.Past.{entry_of}
 use Rattle.al_eval.specs.Refusals.{Refusal, broken, header, pool_short}

@@ -12,7 +12,7 @@ use Rattle.al_block.specs.Hashes.{payset_hash_of}
 use Rattle.al_rewards.specs.declared.state.RewardsState.{RewardsState}
 use Rattle.al_rows.specs.Rows.{RowMap, same_bytes}
 use Rattle.al_txn.specs.declared.txn.Txn.{Txn}
-use Rattle.al_moves.specs.Moves.{same_address}
+use Rattle.al_moves.specs.Accounts.{same_address}
 use Rattle.al_eval.specs.declared.before.Before.{Before}
 use Rattle.al_eval.specs.Refusals.{Refusal, header}
 

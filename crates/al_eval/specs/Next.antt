@@ -6,7 +6,7 @@ use Rattle.al_rows.specs.declared.row.Row.{Row}
 use Rattle.al_rows.specs.declared.stored.Stored.{Stored}
 use Rattle.al_rows.specs.Finite.{or_below}
 use Rattle.al_rows.specs.declared.change.Change.{Change}
-use Rattle.al_moves.specs.Works.{at}
+use Rattle.al_moves.specs.Held.{at}
 
 -- what stands under a key that a block of this round changed
 abbrev pub stored_at : ℕ → Option Row → Option Stored

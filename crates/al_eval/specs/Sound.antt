@@ -24,7 +24,8 @@ use Rattle.al_rows.specs.Finite.{total}
 use Rattle.al_rows.specs.Rows.{RowMap, InRange, bare, account, has_params}
 use Rattle.al_base.specs.declared.asset.AssetParams.{AssetParams}
 use Rattle.al_moves.specs.declared.rule.Rule.{Rule}
-use Rattle.al_moves.specs.Moves.{AreChanges, change_of, same_address}
+use Rattle.al_moves.specs.Accounts.{same_address}
+use Rattle.al_moves.specs.Changes.{AreChanges, change_of}
 use Rattle.al_moves.specs.Money.{money}
 use Rattle.al_moves.specs.Resources.{CountsAgree, app_account}
 use Rattle.al_genesis.specs.declared.genesis.Genesis.{Genesis}

@@ -20,8 +20,9 @@ use Rattle.al_bodies.specs.declared.body.Body.{Body}
 use Rattle.al_bodies.specs.declared.body.Body.TheVariants as body
 use Rattle.al_txn.specs.declared.chain.Chain.{Chain}
 use Rattle.al_txn.specs.declared.txn.Txn.{Txn}
-use Rattle.al_moves.specs.Moves.{then_do, AreChanges}
-use Rattle.al_moves.specs.Money.{counts}
+use Rattle.al_moves.specs.Rules.{then_do}
+use Rattle.al_moves.specs.Changes.{AreChanges}
+use Rattle.al_moves.specs.Totals.{counts}
 use Rattle.al_eval.specs.declared.before.Before.{Before}
 use Rattle.al_eval.specs.declared.next.Stepped.{Stepped}
 use Rattle.al_eval.specs.declared.before.EvalRefusal.{EvalRefusal}

@@ -15,11 +15,11 @@ use Rattle.al_block.specs.Hashes.{header_hash_of}
 use Rattle.al_txn.specs.declared.chain.Chain.{Chain}
 use Rattle.al_txn.specs.declared.txn.Txn.{Txn}
 use Rattle.al_txn.specs.declared.txn.Item.{Item}
-use Rattle.al_moves.specs.Moves.{then_do}
+use Rattle.al_moves.specs.Rules.{then_do}
 use Rattle.al_rows.specs.declared.stored.Stored.{Stored}
 use Rattle.al_rows.specs.Rows.{IsKept, bare}
 use Rattle.al_rewards.specs.declared.totals.Totals.{Totals}
-use Rattle.al_moves.specs.Money.{counts}
+use Rattle.al_moves.specs.Totals.{counts}
 use Rattle.al_rows.proofs.Views.{get-of_entries, ranged-get}
 use Rattle.al_rows.specs.declared.row.Row.{Row}
 use Rattle.al_rows.specs.declared.row.Row.TheVariants as rows

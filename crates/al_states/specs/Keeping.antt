@@ -12,7 +12,7 @@ use Rattle.al_block.specs.Hashes.{header_hash_of}
 use Rattle.al_rows.specs.declared.stored.Stored.{Stored}
 use Rattle.al_rows.specs.Rows.{IsKept, bare}
 use Rattle.al_rewards.specs.declared.totals.Totals.{Totals}
-use Rattle.al_moves.specs.Money.{counts}
+use Rattle.al_moves.specs.Totals.{counts}
 use Rattle.al_eval.specs.State.{State, counts_in, step, replay}
 use Rattle.al_eval.specs.Sound.{Sound}
 use Rattle.al_eval.specs.Past.{entry_of}

@@ -3,7 +3,7 @@ use Rattle.std.specs.List.Sorted.{IsStrictlySortedBy}
 use Rattle.al_base.specs.Keys.{key_cmp}
 use Rattle.al_rows.specs.Finite.{or_below}
 use Rattle.al_rows.specs.declared.change.Change.{Change}
-use Rattle.al_moves.specs.Works.{at}
+use Rattle.al_moves.specs.Held.{at}
 use Rattle.al_eval.specs.Next.{left_of}
 use Rattle.al_eval.proofs.Nexts.{drop_at, later_changes, put_change}
 use Rattle.al_eval.proofs.next.apply_all.Goals as goal

@@ -6,7 +6,7 @@ use Rattle.al_base.specs.Keys.{key_cmp}
 use Rattle.al_rows.specs.declared.stored.Stored.{Stored}
 use Rattle.al_rows.specs.Finite.{or_below}
 use Rattle.al_rows.proofs.Keys.{derived_order}
-use Rattle.al_moves.specs.Works.{at}
+use Rattle.al_moves.specs.Held.{at}
 use Rattle.al_eval.proofs.Nexts.{all_put, later_sorted, put_first, sorted_alike}
 use Rattle.al_eval.proofs.next.copy_rows.Goals as goal
 

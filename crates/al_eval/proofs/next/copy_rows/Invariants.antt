@@ -3,7 +3,7 @@ use Rattle.std.specs.List.Sorted.{IsStrictlySortedBy}
 use Rattle.al_base.specs.declared.key.Key.{Key}
 use Rattle.al_base.specs.Keys.{key_cmp}
 use Rattle.al_rows.specs.Finite.{or_below}
-use Rattle.al_moves.specs.Works.{at}
+use Rattle.al_moves.specs.Held.{at}
 use Rattle.al_eval.proofs.next.copy_rows.Given as goal
 
 abbrev pub invariant-loop-key : goal.invariant-loop-key
