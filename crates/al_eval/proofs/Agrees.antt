@@ -1,7 +1,7 @@
 -- Rows that keep resources, boxes, counts and ranges keep what sound rows agree in.
 use Rattle.std.proofs.Common.{◌≡◌, refl, sym, ap, ◌∙◌, ℕ, ◌≤◌, arith}
 use Rattle.al_rows.specs.Rows.{RowMap, account}
-use Rattle.al_rewards.specs.Pending.{max_balance}
+use Rattle.al_rows.specs.Limits.{max_balance}
 use Rattle.al_rows.specs.declared.row.Row.{Row}
 use Rattle.al_rows.specs.Finite.{total}
 use Rattle.al_moves.specs.Money.{money}

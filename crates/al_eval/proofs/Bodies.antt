@@ -1,11 +1,13 @@
 -- What a body must keep, and that each body does.
 use Rattle.std.proofs.Common.{◌≡◌, ap, ◌∙◌, ℕ, ◌+◌, ◌≤◌, Result, Ok, Err, false, arith, not}
 use Rattle.al_rows.specs.Rows.{RowMap, account, no_address}
-use Rattle.al_rewards.specs.Pending.{max_balance}
+use Rattle.al_rows.specs.Limits.{max_balance}
 use Rattle.al_bodies.specs.declared.body.Body.{Body}
 use Rattle.al_txn.specs.declared.chain.Chain.{Chain}
 use Rattle.al_moves.specs.declared.rule.Rule.{Rule}
-use Rattle.al_moves.specs.Moves.{then_do, same_address, paid}
+use Rattle.al_moves.specs.Rules.{then_do}
+use Rattle.al_moves.specs.Accounts.{same_address}
+use Rattle.al_moves.specs.Pay.{paid}
 use Rattle.al_moves.specs.Money.{money, IsFair}
 use Rattle.al_moves.proofs.Monies.{moves_are_fair}
 use Rattle.al_eval.specs.Groups.{size_of}

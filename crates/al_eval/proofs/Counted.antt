@@ -13,7 +13,7 @@ use Rattle.al_msgpack.specs.Rising.{rises}
 use Rattle.al_rewards.specs.declared.share.Share.{Share}
 use Rattle.al_rewards.specs.declared.totals.Count.{Count}
 use Rattle.al_rewards.specs.declared.totals.Totals.{Totals}
-use Rattle.al_rewards.specs.Pending.{pending}
+use Rattle.al_rewards.specs.Pending.{pending, reward_unit}
 use Rattle.al_rewards.specs.Totals.{AreTotals, and_count, and_share, count_of, no_count, no_totals, plus}
 use Rattle.al_rows.specs.declared.account.AccountRow.{AccountRow}
 use Rattle.al_rows.specs.declared.row.Row.{Row}
@@ -24,8 +24,8 @@ use Rattle.al_rows.specs.Rows.{RowMap, bare, is_zero, is_zero_account, no_accoun
 use Rattle.al_rows.proofs.Keys.{keys_total, exact_keys}
 use Rattle.al_rows.proofs.Maps.{get-map_entries}
 use Rattle.al_rows.proofs.Sames.{account_true}
-use Rattle.al_moves.specs.Moves.{share_of}
-use Rattle.al_moves.specs.Money.{counts, money_at, share_at, units_at}
+use Rattle.al_moves.specs.Accounts.{share_of}
+use Rattle.al_moves.specs.Totals.{counts, money_at, share_at, units_at}
 use Rattle.al_moves.proofs.Counts.{counts_fit, counts_put, counts_set}
 use Rattle.al_moves.proofs.Monies.{none_pending}
 use Rattle.al_moves.proofs.Overlays.{get-set}
@@ -58,7 +58,7 @@ adds_none t s offline empty base =
     let money : s.balance + pending t.level s ≡ 0 = omega (arith, empty, none_pending t.level s base) in
     let more : (c : Count) → plus c no_count ≡ c = λ c. ap₂ (λ (m u : ℕ). record { money = m; units = u }) (let e : c.money + 0 ≡ c.money = omega arith in e) (let e : c.units + 0 ≡ c.units = omega arith in e) in
     ap (λ q. and_count t q (count_of t.level s)) offline
-    ∙ ap₂ (λ (m u : ℕ). and_count t Offline (record { money = m; units = u })) money (ap (λ n. n / 1000000) empty)
+    ∙ ap₂ (λ (m u : ℕ). and_count t Offline (record { money = m; units = u })) money (ap (λ n. n / reward_unit) empty)
     ∙ ap (λ (c : Count). record { level = t.level; online = t.online; offline = c; apart = t.apart }) (more t.offline)
 
 -- a zero row is no row, and adds as much

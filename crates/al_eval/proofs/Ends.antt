@@ -4,13 +4,15 @@ use Rattle.al_base.specs.declared.account.Status.TheVariants.{Offline, Online}
 use Rattle.al_block.specs.declared.block.Block.{Block}
 use Rattle.al_block.specs.declared.header.Header.{Header}
 use Rattle.al_deltas.specs.declared.delta.RoundDelta.{RoundDelta}
-use Rattle.al_rewards.specs.Pending.{max_balance}
+use Rattle.al_rows.specs.Limits.{max_balance}
 use Rattle.al_rewards.specs.declared.totals.Totals.{Totals}
 use Rattle.al_rewards.specs.Totals.{AreTotals, all_units, capped, raised}
 use Rattle.al_rows.specs.Rows.{RowMap, bare}
-use Rattle.al_moves.specs.Moves.{then_do, AreChanges, change_of}
-use Rattle.al_moves.specs.Money.{IsWithin, counts, money}
-use Rattle.al_moves.specs.Works.{Worked}
+use Rattle.al_moves.specs.Rules.{then_do}
+use Rattle.al_moves.specs.Changes.{AreChanges, change_of}
+use Rattle.al_moves.specs.Money.{IsWithin, money}
+use Rattle.al_moves.specs.Totals.{counts}
+use Rattle.al_moves.specs.Work.{Worked}
 use Rattle.al_moves.proofs.Counts.{counts_fit, counts_raised, money_by, money_counted, total-le, units_by, units_within}
 use Rattle.al_eval.specs.declared.before.Before.{Before}
 use Rattle.al_eval.specs.declared.before.EvalRefusal.{EvalRefusal}

@@ -17,7 +17,7 @@ use Rattle.al_block.specs.declared.header.Header.{Header}
 use Rattle.al_record.proofs.Order.{same_name}
 use Rattle.al_msgpack.specs.Rising.{rises}
 use Rattle.al_rewards.specs.Next.{least_pool}
-use Rattle.al_rewards.specs.Pending.{max_balance}
+use Rattle.al_rows.specs.Limits.{max_balance}
 use Rattle.al_rows.specs.declared.account.AccountRow.{AccountRow}
 use Rattle.al_rows.specs.declared.row.Row.{Row}
 use Rattle.al_rows.specs.declared.row.Row.TheVariants as row
@@ -26,7 +26,7 @@ use Rattle.al_rows.specs.Finite.{set_at, total}
 use Rattle.al_rows.specs.Rows.{RowMap, bare, account, account_in, set_account, unless_zero, no_account}
 use Rattle.al_rows.proofs.Keys.{keys_total, exact_keys}
 use Rattle.al_rows.proofs.Maps.{get-map_entries, get-set_at}
-use Rattle.al_moves.specs.Moves.{same_address, share_of}
+use Rattle.al_moves.specs.Accounts.{same_address, share_of}
 use Rattle.al_moves.specs.Money.{worth, money}
 use Rattle.al_moves.proofs.Monies.{none_pending, money_set, same_is}
 use Rattle.al_genesis.specs.declared.genesis_fields.FirstAccount.{FirstAccount}
@@ -34,7 +34,8 @@ use Rattle.al_genesis.specs.declared.genesis.GenesisRow.{GenesisRow}
 use Rattle.al_genesis.specs.Genesis.{addresses_of, has_special, balance_of, money_of, first_row, status_of, interval_of}
 use Rattle.al_deltas.specs.Queue.{stored_at}
 use Rattle.al_eval.specs.Start.{with_account, with_accounts, start}
-use Rattle.al_eval.specs.Sound.{SoundRows, CountsAgree, ResourcesAgree, StartIsSound, holding_of, issued_of, owned, boxes_of, box_bytes_of, assets_held_in, assets_created_in, apps_created_in, apps_opted_in, extra_pages_in, uints_in, byte_slices_in}
+use Rattle.al_moves.specs.Resources.{CountsAgree, owned, boxes_of, box_bytes_of, assets_held_in, assets_created_in, apps_created_in, apps_opted_in, extra_pages_in, uints_in, byte_slices_in}
+use Rattle.al_eval.specs.Sound.{SoundRows, ResourcesAgree, StartIsSound, holding_of, issued_of}
 use Rattle.al_eval.proofs.Steadies.{Keeps, AllBased, AllInRange, counts_of, at_set, at_unless, no_zero, other_account, keeps_account, keeps_on, keeps_itself}
 use Rattle.al_eval.proofs.Agrees.{resources_agree, counts_agree}
 

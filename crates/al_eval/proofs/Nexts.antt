@@ -11,7 +11,7 @@ use Rattle.al_rows.specs.Rows.{RowMap, bare, row_eq, same_row}
 use Rattle.al_rows.proofs.Keys.{keys_total, exact_keys}
 use Rattle.al_rows.proofs.Maps.{get-map_entries}
 use Rattle.al_rows.proofs.Sames.{row_true}
-use Rattle.al_moves.specs.Moves.{AreChanges, change_of}
+use Rattle.al_moves.specs.Changes.{AreChanges, change_of}
 use Rattle.al_eval.specs.Sound.{RowsFollow}
 use Rattle.al_eval.specs.State.{State, stamp, stamped, step}
 use Rattle.al_eval.proofs.Chains.{bare_stamped, step_ok}

@@ -5,7 +5,7 @@ use Rattle.al_block.specs.declared.header.Field.{Field}
 use Rattle.al_block.specs.declared.block.Block.{Block}
 use Rattle.al_rows.specs.Rows.{RowMap, account, set_account}
 use Rattle.al_rewards.specs.Next.{least_pool}
-use Rattle.al_moves.specs.Moves.{then_do}
+use Rattle.al_moves.specs.Rules.{then_do}
 use Rattle.al_moves.specs.Money.{units}
 use Rattle.al_eval.specs.declared.before.Before.{Before}
 use Rattle.al_eval.specs.declared.tail.Entry.{Entry}

@@ -10,7 +10,8 @@ use Rattle.al_base.specs.declared.key.Key.TheVariants as key
 use Rattle.al_base.specs.Keys.{key_cmp}
 use Rattle.al_rewards.specs.declared.share.Share.{Share}
 use Rattle.al_rewards.specs.Next.{least_pool}
-use Rattle.al_rewards.specs.Pending.{is_apart, pending, max_balance}
+use Rattle.al_rewards.specs.Pending.{is_apart, pending, reward_unit}
+use Rattle.al_rows.specs.Limits.{max_balance}
 use Rattle.al_rows.specs.declared.account.AccountRow.{AccountRow}
 use Rattle.al_rows.specs.declared.row.Row.{Row}
 use Rattle.al_rows.specs.declared.row.Row.TheVariants as row
@@ -18,7 +19,7 @@ use Rattle.al_rows.specs.Finite.{set_at, weight, total}
 use Rattle.al_rows.specs.Rows.{RowMap, account, account_in, set_account}
 use Rattle.al_rows.proofs.Keys.{keys_total, exact_keys}
 use Rattle.al_rows.proofs.Maps.{total-remove, weight-le-total}
-use Rattle.al_moves.specs.Moves.{share_of}
+use Rattle.al_moves.specs.Accounts.{share_of}
 use Rattle.al_moves.specs.Money.{IsExact, worth, money, units}
 use Rattle.al_moves.proofs.Overlays.{get-set, same_key}
 use Rattle.al_moves.proofs.Monies.{pending_apart, weight_account, worth-le-money, money_set, money_raised}
@@ -32,15 +33,15 @@ two_weigh w m k q apart =
     let left : get (set_at m k None) q ≡ get m q = get-set m k None q ∙ ap (λ b. cond b None (get m q)) apart in
     omega (arith, total-remove keys_total exact_keys w m k, weight-le-total keys_total exact_keys w (set_at m k None) q, ap (weight w q) left)
 
-pending_least : (level : ℕ) (s : Share) → is_apart s.status ≡ false → s.base ≤ level → min max_balance (s.balance / 1000000 * (level - s.base)) ≤ pending level s
+pending_least : (level : ℕ) (s : Share) → is_apart s.status ≡ false → s.base ≤ level → min max_balance (s.balance / reward_unit * (level - s.base)) ≤ pending level s
 unfolding pending
-pending_least level s apart low = subst (λ b. min max_balance (s.balance / 1000000 * (level - s.base)) ≤ cond (b || nat_le level s.base) 0 (min max_balance (s.balance / 1000000 * (level - s.base)))) (sym apart) (by_test (nat_le level s.base) refl)
+pending_least level s apart low = subst (λ b. min max_balance (s.balance / reward_unit * (level - s.base)) ≤ cond (b || nat_le level s.base) 0 (min max_balance (s.balance / reward_unit * (level - s.base)))) (sym apart) (by_test (nat_le level s.base) refl)
   where
-    by_test : (b : Bool) → nat_le level s.base ≡ b → min max_balance (s.balance / 1000000 * (level - s.base)) ≤ cond b 0 (min max_balance (s.balance / 1000000 * (level - s.base)))
+    by_test : (b : Bool) → nat_le level s.base ≡ b → min max_balance (s.balance / reward_unit * (level - s.base)) ≤ cond b 0 (min max_balance (s.balance / reward_unit * (level - s.base)))
     by_test true t =
         let le : level ≤ s.base = leb-true level s.base t in
         let z : level - s.base ≡ 0 = omega arith in
-        omega (arith, ap (λ n. s.balance / 1000000 * n) z, mul-zero (s.balance / 1000000))
+        omega (arith, ap (λ n. s.balance / reward_unit * n) z, mul-zero (s.balance / reward_unit))
     by_test false t = omega arith
 
 more_times : (a b c : ℕ) → a ≤ b → a * c ≤ b * c
@@ -67,10 +68,10 @@ module _ (level rise : ℕ) (m : RowMap) (pool : Address) where
 
   -- an account that earns has less than the most, with what it earns
   earns_less : (k : Key) (r : AccountRow) → get m k ≡ Some (row.Account r) → is_apart r.status ≡ false → r.base ≤ level → money level m ≤ max_balance → (account m pool).status ≡ NotParticipating → all_earn + least_pool ≤ (account m pool).balance
-      → r.balance / 1000000 * (level + rise - r.base) ≤ max_balance
+      → r.balance / reward_unit * (level + rise - r.base) ≤ max_balance
   unfolding money
   earns_less k r is earns low few apart enough =
-      let u = r.balance / 1000000 in
+      let u = r.balance / reward_unit in
       let both = two_weigh (λ k r. worth level r) m k (key.Account pool) (not_pool k r is earns apart) in
       let first : weight (λ k r. worth level r) k (get m k) ≡ worth level (row.Account r) = ap (weight (λ k r. worth level r) k) is in
       let second = weight_account level pool (get m (key.Account pool)) in

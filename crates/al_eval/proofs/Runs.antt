@@ -4,7 +4,10 @@ use Rattle.al_rows.specs.Rows.{RowMap}
 use Rattle.al_txn.specs.declared.chain.Chain.{Chain}
 use Rattle.al_txn.specs.declared.txn.Item.{Item}
 use Rattle.al_moves.specs.declared.rule.Rule.{Rule}
-use Rattle.al_moves.specs.Moves.{then_do, moved, rekeyed, unless_refused, checked}
+use Rattle.al_moves.specs.Rules.{then_do, unless_refused}
+use Rattle.al_moves.specs.Accounts.{moved}
+use Rattle.al_moves.specs.Pay.{rekeyed}
+use Rattle.al_moves.specs.Minimum.{checked}
 use Rattle.al_moves.proofs.Monies.{moves_are_fair}
 use Rattle.al_eval.specs.declared.tail.Entry.{Entry}
 use Rattle.al_eval.specs.Past.{entry_of}

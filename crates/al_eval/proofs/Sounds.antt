@@ -10,13 +10,15 @@ use Rattle.al_block.specs.declared.header.Field.TheVariants as field
 use Rattle.al_block.specs.declared.block.Block.{Block}
 use Rattle.al_rewards.specs.declared.state.RewardsState.{RewardsState}
 use Rattle.al_rewards.specs.Next.{least_pool, next_rewards}
-use Rattle.al_rewards.specs.Pending.{is_apart, max_balance}
+use Rattle.al_rewards.specs.Pending.{is_apart}
+use Rattle.al_rows.specs.Limits.{max_balance}
 use Rattle.al_rewards.specs.Totals.{all_units}
 use Rattle.al_rows.specs.declared.account.AccountRow.{AccountRow}
 use Rattle.al_rows.specs.declared.row.Row.TheVariants as row
 use Rattle.al_rows.specs.Finite.{total}
 use Rattle.al_rows.specs.Rows.{RowMap, bare, account, account_in, set_account, unless_zero}
-use Rattle.al_moves.specs.Money.{money, units, counts, IsExact}
+use Rattle.al_moves.specs.Money.{money, units, IsExact}
+use Rattle.al_moves.specs.Totals.{counts}
 use Rattle.al_eval.specs.declared.tail.Entry.{Entry}
 use Rattle.al_eval.specs.Past.{entry_of}
 use Rattle.al_eval.specs.Refusals.{Refusal, broken, header, pool_short}

@@ -13,11 +13,12 @@ use Rattle.al_base.specs.Keys.{key_cmp}
 use Rattle.al_rows.specs.declared.row.Row.TheVariants as row
 use Rattle.al_rows.specs.declared.stored.Stored.{Stored}
 use Rattle.al_rows.specs.Finite.{set_at}
+use Rattle.al_rows.specs.Limits.{max_balance}
 use Rattle.al_rows.specs.Rows.{AccountInRange, IsKept, is_zero, unless_zero}
 use Rattle.al_rows.proofs.Keys.{keys_total, exact_keys}
 use Rattle.al_rows.proofs.Maps.{find-lookup, get-set_at}
 use Rattle.al_rows.proofs.Views.{get-of_entries, sorted}
-use Rattle.al_moves.specs.Works.{at}
+use Rattle.al_moves.specs.Held.{at}
 use Rattle.al_moves.proofs.Overlays.{turned_at, same_key}
 use Rattle.al_moves.proofs.Firsts.{each_found, all_more}
 use Rattle.al_genesis.specs.declared.genesis_fields.FirstAccount.{FirstAccount}
@@ -28,7 +29,7 @@ use Rattle.al_deltas.specs.Queue.{stored_at}
 use Rattle.al_eval.specs.Start.{with_accounts, and_accounts, start_totals}
 use Rattle.al_base.specs.declared.account.Status.{Status}
 use Rattle.al_base.specs.declared.account.Status.TheVariants.{Offline, Online, NotParticipating}
-use Rattle.al_moves.specs.Moves.{share_of}
+use Rattle.al_moves.specs.Accounts.{share_of}
 use Rattle.al_rewards.specs.declared.totals.Count.{Count}
 use Rattle.al_rewards.specs.declared.totals.Totals.{Totals}
 use Rattle.al_rewards.specs.Totals.{AreTotals, IsCount, and_count, and_share, count_of, plus}
@@ -75,7 +76,7 @@ next_account old new xs i d within h =
 
 -- ---- the accounts of a genesis are in their ranges
 
-ranged_one : (a : FirstAccount) → a.row.balance ≤ 10000000000000000 → AccountInRange (first_row a).row
+ranged_one : (a : FirstAccount) → a.row.balance ≤ max_balance → AccountInRange (first_row a).row
 ranged_one a h = (
   h,
   record {
@@ -91,7 +92,7 @@ ranged_one a h = (
   },
 )
 
-ranged_all : (accounts : List FirstAccount) → money_of accounts ≤ 10000000000000000 → AllByRecursion (λ (r : GenesisRow). AccountInRange r.row) (map first_row accounts)
+ranged_all : (accounts : List FirstAccount) → money_of accounts ≤ max_balance → AllByRecursion (λ (r : GenesisRow). AccountInRange r.row) (map first_row accounts)
 ranged_all [] h = tt
 ranged_all (a ∷ accounts) h =
     let more : money_of (a ∷ accounts) ≡ a.row.balance + money_of accounts = sum_by-cons (λ x. x) a.row.balance (map (λ (b : FirstAccount). b.row.balance) accounts) in

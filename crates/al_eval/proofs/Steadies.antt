@@ -9,7 +9,8 @@ use Rattle.al_base.specs.declared.address.Address.{Address}
 use Rattle.al_base.specs.declared.key.Key.{Key}
 use Rattle.al_base.specs.declared.key.Key.TheVariants as key
 use Rattle.al_base.specs.Keys.{key_cmp}
-use Rattle.al_rewards.specs.Pending.{is_apart, max_balance}
+use Rattle.al_rewards.specs.Pending.{is_apart}
+use Rattle.al_rows.specs.Limits.{max_balance}
 use Rattle.al_rows.specs.declared.account.AccountRow.{AccountRow}
 use Rattle.al_rows.specs.declared.row.Row.{Row}
 use Rattle.al_rows.specs.declared.row.Row.TheVariants as row
@@ -20,7 +21,10 @@ use Rattle.al_rows.proofs.Maps.{total-set_at}
 use Rattle.al_rows.proofs.Sames.{account_true}
 use Rattle.al_bodies.specs.declared.body.Pay.{Pay}
 use Rattle.al_moves.specs.declared.rule.Rule.{Rule}
-use Rattle.al_moves.specs.Moves.{then_do, same_address, credited, earned, put_account, give, take_in, moved, has_no_counts, closed_at, closed, paid_amount, paid_close, paid, rekeyed, unless_refused, first_shortfall, checked, of_account, too_little}
+use Rattle.al_moves.specs.Rules.{then_do, unless_refused, of_account, too_little}
+use Rattle.al_moves.specs.Accounts.{same_address, credited, earned, put_account, give, take_in, moved}
+use Rattle.al_moves.specs.Pay.{has_no_counts, closed_at, closed, paid_amount, paid_close, paid, rekeyed}
+use Rattle.al_moves.specs.Minimum.{first_shortfall, checked}
 use Rattle.al_moves.proofs.Overlays.{get-set, same_key}
 use Rattle.al_moves.proofs.Monies.{same_is, shortfall_number}
 

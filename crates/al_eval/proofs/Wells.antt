@@ -9,7 +9,8 @@ use Rattle.al_txn.specs.declared.chain.Chain.{Chain}
 use Rattle.al_txn.specs.declared.txn.Item.{Item}
 use Rattle.al_txn.specs.Form.{first_broken, common_tests, body_tests, form_fault, bytes_eq, address_eq, is_barred}
 use Rattle.al_moves.specs.declared.rule.Rule.{Rule}
-use Rattle.al_moves.specs.Moves.{plain_rule, same_address}
+use Rattle.al_moves.specs.Rules.{plain_rule}
+use Rattle.al_moves.specs.Accounts.{same_address}
 use Rattle.al_eval.specs.Groups.{first_at, size_fault, form_rule, forms_fault, group_fault, entered, left_after}
 use Rattle.std.specs.Cmp.Lexicographic.{nat_list_eq_equiv}
 use Rattle.al_base.specs.declared.address.Address.{Address}

@@ -6,10 +6,11 @@ use Rattle.al_block.specs.declared.header.Header.{Header}
 use Rattle.al_deltas.specs.declared.delta.RoundDelta.{RoundDelta}
 use Rattle.al_block.specs.Hashes.{header_hash_of}
 use Rattle.al_rewards.specs.Totals.{raised}
-use Rattle.al_moves.specs.Money.{IsWithin, counts}
+use Rattle.al_moves.specs.Money.{IsWithin}
+use Rattle.al_moves.specs.Totals.{counts}
 use Rattle.al_rows.specs.Rows.{RowMap}
-use Rattle.al_moves.specs.Moves.{change_of, AreChanges}
-use Rattle.al_moves.specs.Works.{Worked, IsFixed}
+use Rattle.al_moves.specs.Changes.{change_of, AreChanges}
+use Rattle.al_moves.specs.Work.{Worked, IsFixed}
 use Rattle.al_eval.specs.declared.before.Before.{Before}
 use Rattle.al_eval.specs.declared.before.EvalRefusal.{EvalRefusal}
 use Rattle.al_eval.specs.Refusals.{Refusal, refusal_of, IsDue, IsCounted, IsNoRefusal}

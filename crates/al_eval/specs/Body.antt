@@ -7,7 +7,7 @@ use Rattle.al_bodies.specs.declared.body.Body.{Body}
 use Rattle.al_bodies.specs.declared.body.Body.TheVariants as body
 use Rattle.al_txn.specs.declared.txn.Item.{Item}
 use Rattle.al_moves.specs.declared.rule.Rule.{Rule}
-use Rattle.al_moves.specs.Moves.{paid}
+use Rattle.al_moves.specs.Pay.{paid}
 
 -- where a transaction stands: the reward level, the round, the number that it gives to what it creates, and its entry of the payset
 pub record Context : Type 0 where

@@ -15,7 +15,7 @@ use Rattle.al_txn.specs.declared.txn.Item.{Item}
 use Rattle.al_txn.specs.Form.{form_fault}
 use Rattle.al_txn.specs.Ids.{group_id_of}
 use Rattle.al_moves.specs.declared.rule.Rule.{Rule}
-use Rattle.al_moves.specs.Moves.{plain_rule, too_few}
+use Rattle.al_moves.specs.Rules.{plain_rule, too_few}
 use Rattle.al_eval.specs.Refusals.{Refusal, broken}
 
 -- ---- how many transactions there are

@@ -1,5 +1,5 @@
 -- What makes a state sound: its counts are those of its rows, all its money is at most what one balance may be, and the pool can pay what is due until the rate is computed anew.
-use Rattle.std.specs.Prelude.{List, map, ⊤, ◌≡◌, ◌≢◌, ℕ, ◌+◌, ◌-◌, ◌*◌, ◌≤◌, ◌<◌, Bool, true, false, nat_eq, if◌then◌else◌, length, is_some}
+use Rattle.std.specs.Prelude.{List, map, ⊤, ◌≡◌, ◌≢◌, ℕ, ◌+◌, ◌-◌, ◌*◌, ◌≤◌, ◌<◌, Bool, true, false, nat_eq, if◌then◌else◌}
 use Rattle.std.specs.declared.option.Option.{Option}
 use Rattle.std.specs.declared.option.Option.TheVariants.{None, Some}
 use Rattle.std.specs.declared.result.Result.{Result}
@@ -10,26 +10,23 @@ use Rattle.al_base.specs.declared.account.Status.TheVariants.{NotParticipating}
 use Rattle.al_base.specs.declared.address.Address.{Address}
 use Rattle.al_base.specs.declared.key.Key.{Key}
 use Rattle.al_base.specs.declared.key.Key.TheVariants as key
-use Rattle.al_base.specs.Keys.{number_bytes}
-use Rattle.al_base.specs.Name.{name_of}
 use Rattle.al_block.specs.declared.block.Block.{Block}
-use Rattle.al_digest.specs.Digests.{digest_of}
-use Rattle.al_digest.specs.declared.hashing.Prefix.TheVariants as prefixes
 use Rattle.al_rewards.specs.Next.{least_pool}
-use Rattle.al_rewards.specs.Pending.{is_apart, max_balance}
+use Rattle.al_rewards.specs.Pending.{is_apart}
+use Rattle.al_rows.specs.Limits.{max_balance}
 use Rattle.al_rewards.specs.Totals.{AreTotals}
 use Rattle.al_rows.specs.declared.account.AccountRow.{AccountRow}
 use Rattle.al_rows.specs.declared.row.Row.{Row}
-use Rattle.al_rows.specs.declared.row.AppParams.{AppParams}
-use Rattle.al_rows.specs.declared.row.Local.{Local}
 use Rattle.al_rows.specs.declared.row.Holding.{Holding}
 use Rattle.al_rows.specs.declared.row.Row.TheVariants as row
 use Rattle.al_rows.specs.Finite.{total}
 use Rattle.al_rows.specs.Rows.{RowMap, InRange, bare, account, has_params}
 use Rattle.al_base.specs.declared.asset.AssetParams.{AssetParams}
 use Rattle.al_moves.specs.declared.rule.Rule.{Rule}
-use Rattle.al_moves.specs.Moves.{AreChanges, change_of, same_address}
+use Rattle.al_moves.specs.Accounts.{same_address}
+use Rattle.al_moves.specs.Changes.{AreChanges, change_of}
 use Rattle.al_moves.specs.Money.{money}
+use Rattle.al_moves.specs.Resources.{CountsAgree, app_account}
 use Rattle.al_genesis.specs.declared.genesis.Genesis.{Genesis}
 use Rattle.al_genesis.specs.Genesis.{IsGenesis}
 use Rattle.al_eval.specs.Start.{start, start_totals}
@@ -39,83 +36,6 @@ use Rattle.al_deltas.specs.Queue.{after_delta}
 use Rattle.al_eval.specs.declared.before.EvalRefusal.{EvalRefusal}
 use Rattle.al_eval.specs.Answers.{IsDeltaOf}
 use Rattle.al_eval.specs.Refusals.{Refusal, broken, header, pool_short, Verdict, refused, failed, no_memory, refusal_of}
-
-abbrev pub one_if : Bool → ℕ
-one_if b = if b then 1 else 0
-
--- ---- what a resource row counts for its owner
-
-abbrev pub assets_held_in : Row → ℕ
-assets_held_in (row.Asset a) = one_if (is_some a.holding)
-assets_held_in r = 0
-
-abbrev pub assets_created_in : Row → ℕ
-assets_created_in (row.Asset a) = one_if (is_some a.params)
-assets_created_in r = 0
-
-abbrev pub apps_created_in : Row → ℕ
-apps_created_in (row.App a) = one_if (is_some a.params)
-apps_created_in r = 0
-
-abbrev pub apps_opted_in : Row → ℕ
-apps_opted_in (row.App a) = one_if (is_some a.local)
-apps_opted_in r = 0
-
-abbrev pub of_params : (AppParams → ℕ) → Option AppParams → ℕ
-of_params f None = 0
-of_params f (Some p) = f p
-
-abbrev pub of_local : (Local → ℕ) → Option Local → ℕ
-of_local f None = 0
-of_local f (Some l) = f l
-
-abbrev pub extra_pages_in : Row → ℕ
-extra_pages_in (row.App a) = of_params (λ p. p.extra_pages) a.params
-extra_pages_in r = 0
-
--- the schema entries of an application that was created, and of one that was opted in to
-abbrev pub uints_in : Row → ℕ
-uints_in (row.App a) = of_params (λ p. p.global_uints) a.params + of_local (λ l. l.uints) a.local
-uints_in r = 0
-
-abbrev pub byte_slices_in : Row → ℕ
-byte_slices_in (row.App a) = of_params (λ p. p.global_slices) a.params + of_local (λ l. l.slices) a.local
-byte_slices_in r = 0
-
--- what the resource rows of an address count
-abbrev pub owned : Address → (Row → ℕ) → Key → Row → ℕ
-owned who f (key.Resource a id) r = if same_address a who then f r else 0
-owned who f k r = 0
-
--- ---- what a box counts for its application's account
-
--- the account of an application: the digest of its number
-abbrev pub app_account : ℕ → Address
-app_account app = record { 0 = digest_of prefixes.App (number_bytes app) }
-
-abbrev pub box_bytes_in : List ℕ → Row → ℕ
-box_bytes_in name (row.Box b) = length name + length b.value
-box_bytes_in name r = 0
-
-abbrev pub boxes_of : Address → Key → Row → ℕ
-boxes_of who (key.Box app name) r = if same_address (app_account app) who then 1 else 0
-boxes_of who k r = 0
-
-abbrev pub box_bytes_of : Address → Key → Row → ℕ
-box_bytes_of who (key.Box app name) r = if same_address (app_account app) who then box_bytes_in (name_of name) r else 0
-box_bytes_of who k r = 0
-
--- the counts of an address are those of its resource and box rows; an account without a row has none
-pub record CountsAgree (m : RowMap) (who : Address) : Type 0 where
-  pub assets_held : (account m who).assets_held ≡ total (owned who assets_held_in) m
-  pub assets_created : (account m who).assets_created ≡ total (owned who assets_created_in) m
-  pub apps_created : (account m who).apps_created ≡ total (owned who apps_created_in) m
-  pub apps_opted : (account m who).apps_opted ≡ total (owned who apps_opted_in) m
-  pub extra_pages : (account m who).extra_pages ≡ total (owned who extra_pages_in) m
-  pub uints : (account m who).uints ≡ total (owned who uints_in) m
-  pub byte_slices : (account m who).byte_slices ≡ total (owned who byte_slices_in) m
-  pub boxes : (account m who).boxes ≡ total (boxes_of who) m
-  pub box_bytes : (account m who).box_bytes ≡ total (box_bytes_of who) m
 
 -- ---- assets and applications
 

@@ -4,7 +4,7 @@ use Rattle.std.specs.FinMap.{FinMap, from_entries}
 use Rattle.al_base.specs.declared.key.Key.TheVariants.{Account}
 use Rattle.al_base.specs.Keys.{key_cmp}
 use Rattle.std.specs.declared.option.Option.TheVariants.{Some}
-use Rattle.al_moves.specs.Moves.{share_of}
+use Rattle.al_moves.specs.Accounts.{share_of}
 use Rattle.al_rewards.specs.declared.totals.Totals.{Totals}
 use Rattle.al_rewards.specs.Totals.{and_share, no_totals}
 use Rattle.al_rows.specs.declared.row.Row.TheVariants as row

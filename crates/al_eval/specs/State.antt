@@ -18,8 +18,9 @@ use Rattle.al_rewards.specs.declared.totals.Totals.{Totals}
 use Rattle.al_rewards.specs.Totals.{all_units}
 use Rattle.al_txn.specs.declared.chain.Chain.{Chain}
 use Rattle.al_txn.specs.declared.txn.Txn.{Txn}
-use Rattle.al_moves.specs.Moves.{then_do, AreChanges}
-use Rattle.al_moves.specs.Money.{counts}
+use Rattle.al_moves.specs.Rules.{then_do}
+use Rattle.al_moves.specs.Changes.{AreChanges}
+use Rattle.al_moves.specs.Totals.{counts}
 use Rattle.al_eval.specs.declared.before.Before.{Before}
 use Rattle.al_eval.specs.Past.{entry_of}
 use Rattle.al_eval.specs.Refusals.{Refusal}

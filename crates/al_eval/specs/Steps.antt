@@ -3,7 +3,7 @@ use Rattle.std.specs.Prelude.{ℕ, List}
 use Rattle.std.specs.declared.result.Result.{Result}
 use Rattle.al_block.specs.declared.block.Block.{Block}
 use Rattle.al_rows.specs.Rows.{RowMap}
-use Rattle.al_moves.specs.Moves.{then_do}
+use Rattle.al_moves.specs.Rules.{then_do}
 use Rattle.al_eval.specs.declared.before.Before.{Before}
 use Rattle.al_eval.specs.declared.tail.Entry.{Entry}
 pub use Rattle.al_eval.specs.Refusals.{Refusal, broken, header, pool_short}

@@ -4,7 +4,7 @@ ghost use Rattle.std.specs.FinMap.{from_entries};
 ghost use Rattle.std.specs.BTreeMap.{is_at};
 ghost use Rattle.al_base.specs.Keys.{key_cmp};
 ghost use Rattle.al_base.specs.declared.key.Key.TheVariants.{Account};
-ghost use Rattle.al_moves.specs.Works.{at};
+ghost use Rattle.al_moves.specs.Held.{at};
 ghost use Rattle.al_rows.specs.Rows.{AccountInRange, IsKept, unless_zero};
 ghost use Rattle.al_rows.specs.declared.row.Row.TheVariants as row;
 ghost use Rattle.al_deltas.specs.Queue.{stored_at};

@@ -1,6 +1,6 @@
 //! A transaction over the rows changed so far.
 ghost use Rattle.std.specs.Prelude.{◌≡◌, ◌++◌, [], map, true};
-ghost use Rattle.al_moves.specs.Works.{Does, IsDone};
+ghost use Rattle.al_moves.specs.Work.{Does, IsDone};
 ghost use Rattle.al_eval.specs.Past.{entry_of, later_of};
 ghost use Rattle.al_eval.specs.Items.{all_items, applied, at_place, held_until, id_fault, item_fault, lease_fault, transacted, window_fault};
 ghost use Rattle.al_eval.specs.Body.{done_by};

@@ -15,6 +15,7 @@ use Rattle.al_msgpack.specs.Rising.{rises}
 use Rattle.al_record.specs.declared.fault.Fault.{Fault}
 use Rattle.al_record.specs.declared.fault.Fault.TheVariants.{Field, Range}
 use Rattle.al_record.specs.Columns.{FieldOf, Format, number, up_to, text, array, record_field, records_field, table, member_open}
+use Rattle.al_rows.specs.Limits.{max_balance}
 use Rattle.al_rows.specs.Rows.{no_account}
 use Rattle.al_genesis.specs.declared.genesis_fields.FirstRow.{FirstRow}
 use Rattle.al_genesis.specs.declared.genesis_fields.FirstAccount.{FirstAccount}
@@ -29,7 +30,7 @@ use Rattle.al_genesis.specs.declared.genesis.GenesisFault.TheVariants as faults
 abbrev pub row_fields : List (FieldOf FirstRow)
 row_fields =
     up_to (codes "a") 2 (λ r. r.status) ∷
-    up_to (codes "b") 10000000000000000 (λ r. r.balance) ∷
+    up_to (codes "b") max_balance (λ r. r.balance) ∷
     array (codes "e") 32 (λ r. r.vote) ∷
     array (codes "f") 32 (λ r. r.selection) ∷
     array (codes "g") 64 (λ r. r.sprf) ∷
@@ -69,10 +70,6 @@ genesis = table genesis_fields
 -- the least balance of an account that has nothing else, in microAlgos
 abbrev pub least_balance : ℕ
 least_balance = 100000
-
--- the most microAlgos of all accounts together
-abbrev pub most_money : ℕ
-most_money = 10000000000000000
 
 abbrev pub addresses_of : List FirstAccount → List (List ℕ)
 addresses_of accounts = map (λ a. a.address.0) accounts
@@ -130,7 +127,7 @@ abbrev pub HasNoPoor : Address → Address → List FirstAccount → Type 0
 HasNoPoor sink pool accounts = HasPool sink pool accounts × (has_poor sink pool accounts ≡ false)
 
 abbrev pub IsSound : Address → Address → List FirstAccount → Type 0
-IsSound sink pool accounts = HasNoPoor sink pool accounts × (money_of accounts ≤ most_money)
+IsSound sink pool accounts = HasNoPoor sink pool accounts × (money_of accounts ≤ max_balance)
 
 -- the first condition that does not hold
 abbrev pub Breaks : Address → Address → List FirstAccount → GenesisFault → Type 0
@@ -138,7 +135,7 @@ Breaks sink pool accounts (faults.Order place) = IsUnordered accounts place
 Breaks sink pool accounts faults.Special = IsOrdered accounts × (has_both sink pool accounts ≡ false)
 Breaks sink pool accounts (faults.PoolLow balance) = HasSpecials sink pool accounts × (balance ≡ balance_of pool accounts) × (balance < least_balance)
 Breaks sink pool accounts (faults.Minimum place) = HasPool sink pool accounts × IsFirstPoor sink pool accounts place
-Breaks sink pool accounts faults.TotalLarge = HasNoPoor sink pool accounts × (most_money < money_of accounts)
+Breaks sink pool accounts faults.TotalLarge = HasNoPoor sink pool accounts × (max_balance < money_of accounts)
 Breaks sink pool accounts f = ⊥
 
 abbrev pub IsGood : GenesisRecord → Type 0

@@ -5,11 +5,13 @@ ghost use Rattle.std.specs.Str.{bytes_eq};
 ghost use Rattle.std.specs.Ordering.{is_lt, nat_cmp};
 ghost use Rattle.std.specs.Cmp.Lexicographic.{slice_cmp};
 ghost use Rattle.al_msgpack.specs.Rising.{rises};
-ghost use Rattle.al_genesis.specs.Genesis.{Checks, IsUnordered, IsFirstPoor, addresses_of, balance_of, has_special, has_both, is_at, is_poor, money_of, most_money};
+ghost use Rattle.al_genesis.specs.Genesis.{Checks, IsUnordered, IsFirstPoor, addresses_of, balance_of, has_special, has_both, is_at, is_poor, money_of};
+ghost use Rattle.al_rows.specs.Limits.{max_balance};
 
 use crate::GenesisFault;
-use crate::genesis_fields::{FirstAccount, GenesisRecord, MOST_MONEY};
+use crate::genesis_fields::{FirstAccount, GenesisRecord};
 use al_base::Address;
+use al_rows::MAX_BALANCE;
 
 /// The least balance of an account that has nothing else, in microAlgos.
 const LEAST_BALANCE: u64 = 100_000;
@@ -119,11 +121,11 @@ fn first_poor(sink: &Address, pool: &Address, accounts: &[FirstAccount]) -> Opti
 
 /// All accounts together have more than there may be.
 fn has_too_much(accounts: &[FirstAccount]) -> bool
-    ensures { result ≡ nat_lt most_money (money_of accounts.now) }
+    ensures { result ≡ nat_lt max_balance (money_of accounts.now) }
 {
     let mut money: u64 = 0;
     for account in accounts {
         money = money.saturating_add(account.row.balance);
     }
-    money > MOST_MONEY
+    money > MAX_BALANCE
 }

@@ -4,9 +4,6 @@ ghost use Rattle.std.specs.Prelude.{◌≤◌, ◌^◌};
 use al_base::{Address, Bytes, Hash};
 use sqlite_items::Items;
 
-/// The most microAlgos that one account, and all accounts together, may have.
-pub(crate) const MOST_MONEY: u64 = 10_000_000_000_000_000;
-
 /// The row of an account as a genesis record gives it.
 #[derive(Clone, Copy, Debug, PartialEq, Eq)]
 pub struct FirstRow {

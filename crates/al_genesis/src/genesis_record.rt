@@ -4,18 +4,19 @@ ghost use Rattle.al_msgpack.specs.Rising.{canonical, are_canonical};
 ghost use Rattle.al_record.specs.Columns.{Reads, ReadsOne};
 ghost use Rattle.al_genesis.specs.Genesis.{account, row, genesis};
 
-use crate::genesis_fields::{FirstAccount, FirstRow, GenesisRecord, MOST_MONEY};
+use crate::genesis_fields::{FirstAccount, FirstRow, GenesisRecord};
 use al_base::Address;
 use al_msgpack::{Entries, Entry, Val, write};
 use al_record::{
     COUNT, Column, Content, HASH, ReadError, Record, Shape, array, check, check_fields,
     check_ranges, field, list, listed, map, number, put_map, read_all, text,
 };
+use al_rows::MAX_BALANCE;
 use std::alloc::{AllocError, Global};
 
 const ROW: [Column; 8] = [
     Column("a", Shape::UpTo { most: 2 }),
-    Column("b", Shape::UpTo { most: MOST_MONEY }),
+    Column("b", Shape::UpTo { most: MAX_BALANCE }),
     Column("e", HASH),
     Column("f", HASH),
     Column("g", Shape::Array { len: 64 }),

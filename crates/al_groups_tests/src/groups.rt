@@ -1,6 +1,7 @@
 ghost use Rattle.std.specs.Prelude.{◌≤◌, IfSome, [], false};
 ghost use Rattle.std.specs.FinMap.{from_entries};
 ghost use Rattle.al_base.specs.declared.key.Key.TheVariants as keys;
+ghost use Rattle.al_rows.specs.Limits.{max_balance};
 ghost use Rattle.al_rows.specs.Rows.{InRange};
 
 use al_base::{Address, Bytes, Hash, Key, Status};
@@ -120,7 +121,7 @@ fn row_of(who: &Address) -> Option<Row>
 }
 
 fn row(who: &Address, status: Status, balance: u64) -> Row
-    requires { balance ≤ 10000000000000000 }
+    requires { balance ≤ max_balance }
     ensures { InRange (keys.Account who.now) result }
 {
     let _who = who;

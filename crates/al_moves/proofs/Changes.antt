@@ -14,9 +14,9 @@ use Rattle.al_rows.proofs.Sames.{same_itself}
 use Rattle.al_rows.proofs.Keys.{keys_total, exact_keys}
 use Rattle.al_rows.proofs.Maps.{find-lookup}
 use Rattle.al_rows.specs.declared.change.Change.{Change}
-use Rattle.al_moves.specs.Moves.{change_of, AreChanges}
+use Rattle.al_moves.specs.Changes.{change_of, AreChanges, changed}
 use Rattle.al_moves.specs.declared.held.Held.{Held}
-use Rattle.al_moves.specs.Works.{at, befores, changed, now_at, nows, IsWork}
+use Rattle.al_moves.specs.Held.{at, befores, now_at, nows, IsWork}
 use Rattle.al_moves.proofs.Overlays.{at-befores, at-nows, get-now, nows-ordered}
 use Rattle.al_moves.proofs.Firsts.{each_found, sorted, strictly, all_more}
 

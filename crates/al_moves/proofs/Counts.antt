@@ -12,7 +12,7 @@ use Rattle.al_base.specs.declared.key.Key.{Key}
 use Rattle.al_base.specs.Keys.{key_cmp}
 use Rattle.al_rewards.specs.declared.totals.Count.{Count}
 use Rattle.al_rewards.specs.declared.totals.Totals.{Totals}
-use Rattle.al_rewards.specs.Pending.{is_apart}
+use Rattle.al_rewards.specs.Pending.{is_apart, reward_unit}
 use Rattle.al_rewards.specs.Totals.{AreTotals, all_units, and_count, and_share, count_of, earn, plus, raised}
 use Rattle.al_rewards.proofs.Exact.{changed}
 use Rattle.al_rows.specs.declared.account.AccountRow.{AccountRow}
@@ -22,11 +22,11 @@ use Rattle.al_rows.specs.Finite.{or_below, overlaid, set_at, total, weight}
 use Rattle.al_rows.specs.Rows.{RowMap, same_status}
 use Rattle.al_rows.proofs.Keys.{keys_total, exact_keys}
 use Rattle.al_rows.proofs.Maps.{find-lookup, get-overlaid, get-set_at, total-plus, total-same, total-set_at, total-times}
-use Rattle.al_moves.specs.Moves.{earned, share_of}
-use Rattle.al_moves.specs.Money.{IsExact, IsWithin, MoneyIsCounted, RiseIsCounted, count, counts, in_place, money, money_at, recounted, share_at, units, units_at, worth}
+use Rattle.al_moves.specs.Accounts.{earned, share_of}
+use Rattle.al_moves.specs.Money.{IsExact, IsWithin, money, units, worth}
+use Rattle.al_moves.specs.Totals.{MoneyIsCounted, RiseIsCounted, count, counts, in_place, money_at, recounted, share_at, units_at, counted_anew}
 use Rattle.al_moves.specs.declared.held.Held.{Held}
-use Rattle.al_moves.specs.Counted.{counted_anew}
-use Rattle.al_moves.specs.Works.{IsWork, at, befores, now_at, nows}
+use Rattle.al_moves.specs.Held.{IsWork, at, befores, now_at, nows}
 use Rattle.al_moves.proofs.Changes.{each_at}
 use Rattle.al_moves.proofs.Firsts.{all_more, each_found, first_of, less, second_of, sorted, turned_less}
 use Rattle.al_moves.proofs.Monies.{pending_apart, worth_raised}
@@ -71,7 +71,7 @@ money_of level (row.App a) = refl
 money_of level (row.Box b) = refl
 
 units_of : (r : Row) → units r ≡ units_at Online r + units_at Offline r
-units_of (row.Account r) = one_that_earns r.status (r.balance / 1000000)
+units_of (row.Account r) = one_that_earns r.status (r.balance / reward_unit)
 units_of (row.Asset a) = refl
 units_of (row.App a) = refl
 units_of (row.Box b) = refl
@@ -116,9 +116,9 @@ rises level rise q r earns exact = by_test (same_status r.status q) refl
     same_as NotParticipating Offline e = absurd (true≢false (sym e))
     same_as NotParticipating NotParticipating e = refl
 
-    by_test : (b : Bool) → same_status r.status q ≡ b → (if b then worth (level + rise) (row.Account r) else 0) ≡ (if b then worth level (row.Account r) else 0) + rise * (if b then r.balance / 1000000 else 0)
+    by_test : (b : Bool) → same_status r.status q ≡ b → (if b then worth (level + rise) (row.Account r) else 0) ≡ (if b then worth level (row.Account r) else 0) + rise * (if b then r.balance / reward_unit else 0)
     by_test true e =
-        let unit : units (row.Account r) ≡ r.balance / 1000000 = ap (λ b. if b then 0 else r.balance / 1000000) (same_as r.status q e ∙ earns) in
+        let unit : units (row.Account r) ≡ r.balance / reward_unit = ap (λ b. if b then 0 else r.balance / reward_unit) (same_as r.status q e ∙ earns) in
         worth_raised level rise r exact ∙ ap (λ n. worth level (row.Account r) + rise * n) unit
     by_test false e = omega (arith, mul-zero rise)
 
@@ -192,7 +192,7 @@ weighed level k o q = both (weight (money_by level q) k o) (weight (units_by q) 
 share_weighs : (t : Totals) (k : Key) (o : Option Row) → and_share t (share_at o) ≡ with_each t (weighed t.level k o)
 unfolding count_of
 share_weighs t k None = none_more t
-share_weighs t k (Some (row.Account r)) = count_of_status t r.status (r.balance + earned t.level r) (r.balance / 1000000)
+share_weighs t k (Some (row.Account r)) = count_of_status t r.status (r.balance + earned t.level r) (r.balance / reward_unit)
 share_weighs t k (Some (row.Asset a)) = none_more t
 share_weighs t k (Some (row.App a)) = none_more t
 share_weighs t k (Some (row.Box b)) = none_more t
@@ -237,7 +237,7 @@ counts_put level m k o =
 pub units_within : (level : ℕ) (q : Status) (r : Row) → units_at q r ≤ money_at level q r
 units_within level q (row.Account r) = by_test (same_status r.status q)
   where
-    by_test : (b : Bool) → (if b then r.balance / 1000000 else 0) ≤ (if b then r.balance + earned level r else 0)
+    by_test : (b : Bool) → (if b then r.balance / reward_unit else 0) ≤ (if b then r.balance + earned level r else 0)
     by_test true = omega arith
     by_test false = omega arith
 units_within level q (row.Asset a) = omega arith

@@ -14,7 +14,7 @@ use Rattle.al_rows.specs.Finite.{or_below, overlaid, set_at}
 use Rattle.al_rows.specs.Rows.{AccountInRange, InRange, IsKept, RowMap, account, account_in}
 use Rattle.al_rows.proofs.Sames.{same_itself}
 use Rattle.al_moves.specs.declared.held.Held.{Held}
-use Rattle.al_moves.specs.Works.{at, IsWork, nows, put_first, with_row}
+use Rattle.al_moves.specs.Held.{at, IsWork, nows, put_first, with_row}
 use Rattle.al_moves.proofs.Firsts.{sorted}
 use Rattle.al_moves.proofs.Overlays.{IsWork-hold, IsWork-replace, IsWork-start, at-nows, at-put_first, get-now, is_there, itself_at, none-now, now_below, now_changed, nows-put, overlaid-put, set-same, start-kept, still_some}
 
@@ -97,3 +97,18 @@ held-range who (Some (row.Account r)) h = h
 held-range who (Some (row.Asset a)) h = absurd h
 held-range who (Some (row.App a)) h = absurd h
 held-range who (Some (row.Box b)) h = absurd h
+
+-- what a function gives of a row that is held, and of one that is not
+pub held-as : {A : Type 0} (f : Option Row → A) (rs : List (Key × Option Row)) (m : RowMap) (k : Key) (x : A) → Some x ≡ option_map f (at rs k) → x ≡ f (get (overlaid rs m) k)
+held-as f rs m k x is = by_change (at rs k) is ∙ ap f (sym (get-now rs m k))
+  where
+    by_change : (o : Option (Option Row)) → Some x ≡ option_map f o → x ≡ f (or_below o (get m k))
+    by_change None e = absurd (true≢false (ap is_some e))
+    by_change (Some y) e = ap (λ o. unwrap_or o x) e
+
+pub viewed-as : {A : Type 0} (f : Option Row → A) (rs : List (Key × Option Row)) (m : RowMap) (k : Key) → None ≡ option_map f (at rs k) → get m k ≡ get (overlaid rs m) k
+viewed-as f rs m k is = now_below rs m k (by_held (at rs k) is)
+  where
+    by_held : (o : Option (Option Row)) → None ≡ option_map f o → None ≡ o
+    by_held None e = refl
+    by_held (Some y) e = absurd (true≢false (sym (ap is_some e)))

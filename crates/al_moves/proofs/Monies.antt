@@ -3,7 +3,8 @@ use Rattle.std.proofs.Common.{◌≡◌, ◌≢◌, ℕ, ◌+◌, ◌-◌, ◌*�
 use Rattle.std.specs.Option.{option_or}
 use Rattle.al_base.specs.declared.account.Special.{Special}
 use Rattle.al_rewards.specs.declared.share.Share.{Share}
-use Rattle.al_rewards.specs.Pending.{is_apart, pending, max_balance}
+use Rattle.al_rewards.specs.Pending.{is_apart, pending, reward_unit}
+use Rattle.al_rows.specs.Limits.{max_balance}
 use Rattle.al_rows.proofs.Sames.{account_true}
 use Rattle.al_rows.specs.Rows.{min_balance, same_row}
 use Rattle.al_rows.specs.Finite.{first_some}
@@ -26,7 +27,10 @@ use Rattle.al_rows.proofs.Keys.{keys_total, exact_keys}
 use Rattle.al_rows.proofs.Maps.{total-set_at, total-same, total-plus, total-times}
 use Rattle.al_moves.specs.declared.rule.Rule.{Rule}
 use Rattle.al_bodies.specs.declared.body.Pay.{Pay}
-use Rattle.al_moves.specs.Moves.{then_do, same_address, share_of, earned, credited, put_account, give, take_in, moved, has_no_counts, closed_at, closed, paid_amount, paid_close, paid, rekeyed, checked, unless_refused, first_shortfall, shortfall, lacking, of_account, too_little}
+use Rattle.al_moves.specs.Rules.{then_do, unless_refused, of_account, too_little}
+use Rattle.al_moves.specs.Accounts.{same_address, share_of, earned, credited, put_account, give, take_in, moved}
+use Rattle.al_moves.specs.Pay.{has_no_counts, closed_at, closed, paid_amount, paid_close, paid, rekeyed}
+use Rattle.al_moves.specs.Minimum.{checked, first_shortfall, shortfall, lacking}
 use Rattle.al_moves.specs.Money.{worth, money, IsFair, MovesAreFair, IsExact, units, RiseIsEarned}
 use Rattle.al_moves.proofs.Overlays.{get-set}
 
@@ -43,13 +47,13 @@ or_true false = refl
 pub none_pending : (level : ℕ) (s : Share) → s.base ≡ level → pending level s ≡ 0
 unfolding pending
 none_pending level s e =
-    ap (λ n. cond (is_apart s.status || nat_le level n) 0 (min max_balance (s.balance / 1000000 * (level - s.base)))) e
-    ∙ ap (λ c. cond (is_apart s.status || c) 0 (min max_balance (s.balance / 1000000 * (level - s.base)))) (nat_le_itself level)
-    ∙ ap (λ c. cond c 0 (min max_balance (s.balance / 1000000 * (level - s.base)))) (or_true (is_apart s.status))
+    ap (λ n. cond (is_apart s.status || nat_le level n) 0 (min max_balance (s.balance / reward_unit * (level - s.base)))) e
+    ∙ ap (λ c. cond (is_apart s.status || c) 0 (min max_balance (s.balance / reward_unit * (level - s.base)))) (nat_le_itself level)
+    ∙ ap (λ c. cond c 0 (min max_balance (s.balance / reward_unit * (level - s.base)))) (or_true (is_apart s.status))
 
 pub pending_apart : (level : ℕ) (s : Share) → is_apart s.status ≡ true → pending level s ≡ 0
 unfolding pending
-pending_apart level s e = ap (λ b. cond (b || nat_le level s.base) 0 (min max_balance (s.balance / 1000000 * (level - s.base)))) e
+pending_apart level s e = ap (λ b. cond (b || nat_le level s.base) 0 (min max_balance (s.balance / reward_unit * (level - s.base)))) e
 
 worth_credited : (level : ℕ) (r : AccountRow) → (credited level r).balance ≡ worth level (row.Account r)
 worth_credited level r = by_test (is_apart r.status) refl
@@ -69,7 +73,7 @@ worth_with level new r = by_test (is_apart r.status) refl
 empty_pending : (level : ℕ) (s : Share) → s.balance ≡ 0 → pending level s ≡ 0
 unfolding pending
 empty_pending level s e =
-    let z : min max_balance (s.balance / 1000000 * (level - s.base)) ≡ 0 = ap (λ n. min max_balance (n / 1000000 * (level - s.base))) e ∙ ap (min max_balance) (zero-mul (level - s.base)) in
+    let z : min max_balance (s.balance / reward_unit * (level - s.base)) ≡ 0 = ap (λ n. min max_balance (n / reward_unit * (level - s.base))) e ∙ ap (min max_balance) (zero-mul (level - s.base)) in
     ap (cond (is_apart s.status || nat_le level s.base) 0) z ∙ same (is_apart s.status || nat_le level s.base)
   where
     same : (b : Bool) → cond {A = ℕ} b 0 0 ≡ 0
@@ -124,7 +128,7 @@ worth-le-money level m who = omega (arith, money_remove level m who)
 pub same_is : (a b : Address) → is_at (key_cmp (key.Account a)) (key.Account b) ≡ same_address a b
 same_is a b = sym (lists_ties nat_cmp unsigned_ties a.0 b.0)
 
-account-set : (m : RowMap) (a b : Address) (o : Option Row) → account (set_at m (key.Account a) o) b ≡ account_in (cond (same_address a b) o (get m (key.Account b)))
+pub account-set : (m : RowMap) (a b : Address) (o : Option Row) → account (set_at m (key.Account a) o) b ≡ account_in (cond (same_address a b) o (get m (key.Account b)))
 account-set m a b o = ap account_in (get-set m (key.Account a) o (key.Account b) ∙ ap (λ c. cond c o (get m (key.Account b))) (same_is a b))
 
 -- ---- the steps
@@ -180,7 +184,7 @@ moved_is level from to amount m = then_fair level m amount (give level from amou
 
 -- ---- what a step that was not refused has left
 
-then_ok : (due : Result RowMap Rule) (f : RowMap → Result RowMap Rule) (n : RowMap) → then_do due f ≡ Ok n → (k : RowMap) × (due ≡ Ok k) × (f k ≡ Ok n)
+pub then_ok : (due : Result RowMap Rule) (f : RowMap → Result RowMap Rule) (n : RowMap) → then_do due f ≡ Ok n → (k : RowMap) × (due ≡ Ok k) × (f k ≡ Ok n)
 then_ok (Ok k) f n e = (k, refl, e)
 then_ok (Err r) f n e = absurd (let x : Err r ≡ Ok n = e in cc)
 
@@ -188,7 +192,7 @@ pick_ok : (b : Bool) (r : Rule) (x : Result RowMap Rule) (n : RowMap) → (if b 
 pick_ok true r x n e = absurd (let y : Err r ≡ Ok n = e in cc)
 pick_ok false r x n e = e
 
-ok_same : (m n : RowMap) → ◌≡◌ {A = Result RowMap Rule} (Ok m) (Ok n) → m ≡ n
+pub ok_same : (m n : RowMap) → ◌≡◌ {A = Result RowMap Rule} (Ok m) (Ok n) → m ≡ n
 ok_same m n e = cc
 
 put_ok : (m : RowMap) (who : Address) (r : AccountRow) (n : RowMap) → put_account m who r ≡ Ok n → set_account m who r ≡ n
@@ -316,24 +320,24 @@ moves_are_fair = record { moved = moved_is; paid = paid_is; rekeyed = rekeyed_is
 
 -- ---- the level rises
 
-pending_is : (level : ℕ) (s : Share) → is_apart s.status ≡ false → s.base ≤ level → s.balance / 1000000 * (level - s.base) ≤ max_balance → pending level s ≡ s.balance / 1000000 * (level - s.base)
+pending_is : (level : ℕ) (s : Share) → is_apart s.status ≡ false → s.base ≤ level → s.balance / reward_unit * (level - s.base) ≤ max_balance → pending level s ≡ s.balance / reward_unit * (level - s.base)
 unfolding pending
-pending_is level s apart low few = ap (λ b. cond (b || nat_le level s.base) 0 (min max_balance (s.balance / 1000000 * (level - s.base)))) apart ∙ by_test (nat_le level s.base) refl
+pending_is level s apart low few = ap (λ b. cond (b || nat_le level s.base) 0 (min max_balance (s.balance / reward_unit * (level - s.base)))) apart ∙ by_test (nat_le level s.base) refl
   where
-    by_test : (b : Bool) → nat_le level s.base ≡ b → cond b 0 (min max_balance (s.balance / 1000000 * (level - s.base))) ≡ s.balance / 1000000 * (level - s.base)
+    by_test : (b : Bool) → nat_le level s.base ≡ b → cond b 0 (min max_balance (s.balance / reward_unit * (level - s.base))) ≡ s.balance / reward_unit * (level - s.base)
     by_test true t =
         let le : level ≤ s.base = leb-true level s.base t in
         let z : level - s.base ≡ 0 = omega arith in
-        sym (ap (λ n. s.balance / 1000000 * n) z ∙ mul-zero (s.balance / 1000000))
+        sym (ap (λ n. s.balance / reward_unit * n) z ∙ mul-zero (s.balance / reward_unit))
     by_test false t = omega arith
 
 pub worth_raised : (level rise : ℕ) (r : AccountRow) → IsExact level rise r → worth (level + rise) (row.Account r) ≡ worth level (row.Account r) + rise * units (row.Account r)
 worth_raised level rise r exact = by_status (is_apart r.status) refl
   where
-    by_status : (b : Bool) → is_apart r.status ≡ b → r.balance + earned (level + rise) r ≡ r.balance + earned level r + rise * cond b 0 (r.balance / 1000000)
+    by_status : (b : Bool) → is_apart r.status ≡ b → r.balance + earned (level + rise) r ≡ r.balance + earned level r + rise * cond b 0 (r.balance / reward_unit)
     by_status true e = omega (arith, pending_apart (level + rise) (share_of r) e, pending_apart level (share_of r) e, mul-zero rise)
     by_status false e =
-        let u = r.balance / 1000000 in
+        let u = r.balance / reward_unit in
         let low : r.base ≤ level = (exact e).0 in
         let few : u * (level + rise - r.base) ≤ max_balance = (exact e).1 in
         let split : level + rise - r.base ≡ (level - r.base) + rise = omega arith in

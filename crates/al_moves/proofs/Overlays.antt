@@ -15,7 +15,7 @@ use Rattle.al_rows.specs.Rows.{RowMap, InRange, IsKept, same_row}
 use Rattle.al_rows.proofs.Keys.{keys_total, exact_keys}
 use Rattle.al_rows.proofs.Maps.{get-overlaid, get-set_at, find-lookup}
 use Rattle.al_moves.specs.declared.held.Held.{Held}
-use Rattle.al_moves.specs.Works.{at, befores, IsWork, nows, put_first, with_row}
+use Rattle.al_moves.specs.Held.{at, befores, IsWork, nows, put_first, with_row}
 use Rattle.al_moves.proofs.Firsts.{first_of, less, second_of, sorted, strictly}
 
 pub get-now : (es : List (Key × Option Row)) (m : RowMap) (q : Key) → get (overlaid es m) q ≡ or_below (at es q) (get m q)
@@ -204,6 +204,16 @@ IsWork-view {t} {m} {es} {ss} n w same = record {
 }
 
 -- ---- what changed since the start
+
+-- a work that holds nothing
+pub IsWork-new : (t : Bool) (m : RowMap) (es : List (Key × Held)) (ss : List (Key × Option Row)) → es ≡ [] → ss ≡ [] → IsWork t m es ss
+IsWork-new t m es ss none nothing = subst (λ (xs : List (Key × Held)). IsWork t m xs ss) (sym none) (subst (IsWork t m []) (sym nothing) (record {
+  told = λ e q. tt;
+  ranged = λ q. tt;
+  kept = λ q. tt;
+  has_row = λ q h. absurd (true≢false (sym h));
+  ordered = strictly {X = Option Row} [] tt;
+}))
 
 -- the start of a transaction
 pub IsWork-begin : {t : Bool} {m : RowMap} {es : List (Key × Held)} {ss : List (Key × Option Row)} (ts : List (Key × Option Row)) → IsWork t m es ss → ts ≡ [] → IsWork t m es ts

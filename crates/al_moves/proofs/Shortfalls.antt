@@ -14,8 +14,9 @@ use Rattle.al_base.specs.declared.account.Special.{Special}
 use Rattle.al_rows.proofs.Keys.{keys_total}
 use Rattle.al_rows.proofs.Maps.{find-lookup}
 use Rattle.al_moves.specs.declared.rule.Rule.{Rule}
-use Rattle.al_moves.specs.Moves.{shortfall, first_shortfall, lacking, same_address}
-use Rattle.al_moves.specs.Works.{at, now_at}
+use Rattle.al_moves.specs.Accounts.{same_address}
+use Rattle.al_moves.specs.Minimum.{shortfall, first_shortfall, lacking}
+use Rattle.al_moves.specs.Held.{at, now_at}
 use Rattle.al_moves.proofs.Overlays.{get-now, has}
 use Rattle.al_moves.proofs.Firsts.{first_same, first_over, each_found, all_more, sorted}
 

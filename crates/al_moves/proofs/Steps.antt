@@ -1,5 +1,5 @@
 -- One step after another, and a step that stops.
-use Rattle.std.proofs.Common.{◌≡◌, ◌≤◌, ℕ, refl, sym, ap, ◌∙◌, subst, Bool, true, Result, Ok, Err, arith, IsErrAnd, Option, Some, None}
+use Rattle.std.proofs.Common.{◌≡◌, ◌≤◌, ℕ, refl, sym, ap, ◌∙◌, subst, Bool, true, Result, Ok, Err, arith, IsErrAnd, OnOk, Option, Some, None}
 use Rattle.std.proofs.lemmas.Result.{err_from_is_err_and}
 use Rattle.al_base.specs.declared.key.Key.{Key}
 use Rattle.al_rows.specs.declared.row.Row.{Row}
@@ -8,8 +8,8 @@ use Rattle.al_rows.specs.Rows.{RowMap}
 use Rattle.al_moves.specs.declared.rule.Rule.{Rule}
 use Rattle.al_moves.specs.declared.rule.Stop.{Stop}
 use Rattle.al_moves.specs.declared.rule.Stop.TheVariants as stop
-use Rattle.al_moves.specs.Moves.{then_do, unless_refused}
-use Rattle.al_moves.specs.Works.{Worked, IsFixed, Starts, Gives, IsCounted, Does, Looks, IsNoRule}
+use Rattle.al_moves.specs.Rules.{then_do, unless_refused}
+use Rattle.al_moves.specs.Work.{Worked, IsFixed, Starts, Gives, IsCounted, Does, Looks, IsNoRule}
 
 fixed-then : {t : Bool} {a b c : Worked} → IsFixed t a b → IsFixed t b c → IsFixed t a c
 fixed-then p q = record {
@@ -111,3 +111,24 @@ does-set {F} t a b new k v w same level round special failures lender block now 
       starts = λ _. start;
       cause = tt;
     })
+
+-- a row is set, or there is no answer
+pub does-row : {F : Type 0} (t : Bool) (a b new : Worked) (r : Result (Unit {0}) (Stop F)) (k : Key) (v : Option Row) → a ≡ b → new.level ≡ a.level → new.round ≡ a.round → new.special ≡ a.special → a.failures ≤ new.failures → new.lender ≡ a.lender
+    → (t ≡ true → new.block ≡ a.block) → (t ≡ true → OnOk r (new.now ≡ set_at a.now k v)) → (t ≡ true → OnOk r (new.start ≡ a.start)) → IsCounted r a.failures new.failures → IsNoRule r → Does t (Ok (set_at b.now k v)) b new r
+does-row {F} t a b new r k v same level round special failures lender block now start cause none =
+    subst (λ (x : Worked). Does t (Ok (set_at x.now k v)) x new r) same (record {
+      fixed = record { level = level; round = round; special = special; failures = failures; lender = lender; block = block };
+      gives = λ told. given r none (now told);
+      starts = λ told. started r (start told);
+      cause = cause;
+    })
+  where
+    given : (r : Result (Unit {0}) (Stop F)) → IsNoRule r → OnOk r (new.now ≡ set_at a.now k v) → Gives (Ok (set_at a.now k v)) r new.now
+    given (Ok x) n h = ap Ok (sym h)
+    given (Err (stop.Rule e)) n h = absurd n
+    given (Err (stop.View e)) n h = tt
+    given (Err stop.Memory) n h = tt
+
+    started : (r : Result (Unit {0}) (Stop F)) → OnOk r (new.start ≡ a.start) → Starts r a new
+    started (Ok x) h = h
+    started (Err e) h = tt

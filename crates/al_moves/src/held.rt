@@ -7,7 +7,9 @@ ghost use Rattle.std.specs.Option.{option_map};
 ghost use Rattle.al_base.specs.Keys.{key_cmp};
 ghost use Rattle.al_rows.specs.Finite.{overlaid, set_at};
 ghost use Rattle.al_rows.specs.Rows.{AccountInRange, InRange, IsKept, RowMap, account, account_in};
-ghost use Rattle.al_moves.specs.Works.{IsNoRule, IsCounted, IsWork, at, nows, put_first, with_row};
+ghost use Rattle.al_moves.specs.Creators.{AreOthers};
+ghost use Rattle.al_moves.specs.Held.{IsWork, at, nows, put_first, with_row};
+ghost use Rattle.al_moves.specs.Work.{IsNoRule, IsCounted};
 
 use crate::Stop;
 use al_base::{Address, Key};
@@ -26,12 +28,12 @@ pub struct Held {
     pub row: Option<Row>,
 }
 
-/// Why a row was not set.
+// Why a row was not set.
 #[derive(Drop)]
-pub enum Unset {
-    /// Nothing is held under the key. The row comes back.
+enum Unset {
+    // Nothing is held under the key. The row comes back.
     Absent(Option<Row>),
-    /// There is no memory.
+    // There is no memory.
     Memory,
 }
 
@@ -131,8 +133,8 @@ fn keep(
     }
 }
 
-/// Sets the row of a key that is held, and keeps what stood there when the transaction began.
-pub fn set_held(
+// Sets the row of a key that is held, and keeps what stood there when the transaction began.
+fn set_held(
     rows: &mut BTreeMap<Key, Held>,
     started: &mut Vec<(Key, Option<Row>)>,
     key: &Key,
@@ -143,6 +145,7 @@ pub fn set_held(
     ensures now { OnOk result ((m : RowMap) → overlaid (nows rows.new.entries) m ≡ set_at (overlaid (nows rows.old.entries) m) key.now row) }
     ensures start { OnOk result ((t : Bool) (m : RowMap) → IsWork t m rows.old.entries started.old.items → overlaid started.new.items (overlaid (nows rows.new.entries) m) ≡ overlaid started.old.items (overlaid (nows rows.old.entries) m)) }
     ensures absent { (r : Option Row) → result ≡ Err (Unset.Absent r) → (r ≡ row) × (rows.new.entries ≡ rows.old.entries) × (started.new.items ≡ started.old.items) × (at rows.new.entries key.now ≡ None) }
+    ensures others { AreOthers key.now rows.old.entries rows.new.entries }
 {
     match replace(rows, key, row) {
         Ok(old) => match keep(started, key, old) {
@@ -166,6 +169,7 @@ fn set_new(
     ensures work { (t : Bool) (m : RowMap) → IsWork t m rows.old.entries started.old.items → (t ≡ true → old ≡ get m key.now) → IsWork t m rows.new.entries started.new.items }
     ensures now { OnOk result ((m : RowMap) → overlaid (nows rows.new.entries) m ≡ set_at (overlaid (nows rows.old.entries) m) key.now row) }
     ensures start { OnOk result ((t : Bool) (m : RowMap) → IsWork t m rows.old.entries started.old.items → at rows.old.entries key.now ≡ None → old ≡ get m key.now → overlaid started.new.items (overlaid (nows rows.new.entries) m) ≡ overlaid started.old.items (overlaid (nows rows.old.entries) m)) }
+    ensures others { AreOthers key.now rows.old.entries rows.new.entries }
 {
     let block = copy_row(alloc, &old)?;
     put(rows, key, Held { block, row })?;
@@ -183,6 +187,7 @@ fn hold(
     requires { IfSome row (InRange key.now) }
     ensures work { (t : Bool) (m : RowMap) (ss : _) → IsWork t m rows.old.entries ss → (t ≡ true → row ≡ get m key.now) → IsWork t m rows.new.entries ss }
     ensures now { (m : RowMap) → at rows.old.entries key.now ≡ None → row ≡ get m key.now → overlaid (nows rows.new.entries) m ≡ overlaid (nows rows.old.entries) m }
+    ensures others { AreOthers key.now rows.old.entries rows.new.entries }
 {
     let block = copy_row(alloc, &row)?;
     put(rows, key, Held { block, row })?;
@@ -206,8 +211,8 @@ pub fn viewed<V: RowView>(view: &mut V, key: &Key) -> Result<Option<Row>, Stop<V
     }
 }
 
-/// Sets the row of a key that is not held, and holds what the view has there.
-pub fn set_viewed<V: RowView>(
+// Sets the row of a key that is not held, and holds what the view has there.
+fn set_viewed<V: RowView>(
     alloc: Global,
     view: &mut V,
     rows: &mut BTreeMap<Key, Held>,
@@ -225,10 +230,38 @@ pub fn set_viewed<V: RowView>(
     ensures work { IsWork V.tells (V.rows view.old) rows.old.entries started.old.items → IsWork V.tells (V.rows view.new) rows.new.entries started.new.items }
     ensures now { V.tells ≡ true → OnOk result (overlaid (nows rows.new.entries) (V.rows view.new) ≡ set_at (overlaid (nows rows.old.entries) (V.rows view.old)) key.now row) }
     ensures start { V.tells ≡ true → IsWork V.tells (V.rows view.old) rows.old.entries started.old.items → OnOk result (overlaid started.new.items (overlaid (nows rows.new.entries) (V.rows view.new)) ≡ overlaid started.old.items (overlaid (nows rows.old.entries) (V.rows view.old))) }
+    ensures others { AreOthers key.now rows.old.entries rows.new.entries }
 {
     let old = viewed(view, key)?;
     set_new(alloc, rows, started, key, row, old)?;
     Ok(())
+}
+
+/// Sets the row of a key, and holds what the view has there.
+pub fn set_row<V: RowView>(
+    alloc: Global,
+    view: &mut V,
+    rows: &mut BTreeMap<Key, Held>,
+    started: &mut Vec<(Key, Option<Row>)>,
+    key: &Key,
+    row: Option<Row>,
+) -> Result<(), Stop<V::Fault>>
+    requires { IfSome row (IsKept key.now) }
+    ensures same { V.tells ≡ true → V.rows view.new ≡ V.rows view.old }
+    ensures lender { V.lender view.new ≡ V.lender view.old }
+    ensures later { V.failures view.old ≤ V.failures view.new }
+    ensures cause { IsCounted result (V.failures view.old) (V.failures view.new) }
+    ensures no_rule { IsNoRule result }
+    ensures work { IsWork V.tells (V.rows view.old) rows.old.entries started.old.items → IsWork V.tells (V.rows view.new) rows.new.entries started.new.items }
+    ensures now { V.tells ≡ true → OnOk result (overlaid (nows rows.new.entries) (V.rows view.new) ≡ set_at (overlaid (nows rows.old.entries) (V.rows view.old)) key.now row) }
+    ensures start { V.tells ≡ true → IsWork V.tells (V.rows view.old) rows.old.entries started.old.items → OnOk result (overlaid started.new.items (overlaid (nows rows.new.entries) (V.rows view.new)) ≡ overlaid started.old.items (overlaid (nows rows.old.entries) (V.rows view.old))) }
+    ensures others { AreOthers key.now rows.old.entries rows.new.entries }
+{
+    match set_held(rows, started, key, row) {
+        Ok(()) => Ok(()),
+        Err(Unset::Memory) => Err(Stop::Memory),
+        Err(Unset::Absent(row)) => set_viewed(alloc, view, rows, started, key, row),
+    }
 }
 
 /// Holds the row of an account that is not held, and gives the account.
@@ -248,6 +281,7 @@ pub fn hold_account<V: RowView>(
     ensures now { V.tells ≡ true → overlaid (nows rows.new.entries) (V.rows view.new) ≡ overlaid (nows rows.old.entries) (V.rows view.old) }
     ensures value { V.tells ≡ true → IfOk result (λ r. r ≡ account (overlaid (nows rows.old.entries) (V.rows view.old)) who.now) }
     ensures range { IfOk result (λ r. AccountInRange r) }
+    ensures others { AreOthers (Key.Account who.now) rows.old.entries rows.new.entries }
 {
     let key = Key::Account(*who);
     let row = viewed(view, &key)?;

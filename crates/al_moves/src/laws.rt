@@ -1,5 +1,7 @@
 //! Laws of the definitions.
-ghost use Rattle.al_moves.specs.Money.{MoneyIsCounted, MovesAreFair, RiseIsCounted, RiseIsEarned};
+ghost use Rattle.al_moves.specs.Money.{MovesAreFair, RiseIsEarned};
+ghost use Rattle.al_moves.specs.Totals.{MoneyIsCounted, RiseIsCounted};
+ghost use Rattle.al_moves.specs.Resources.{CountsFollow};
 
 /// No move makes or loses money, and none is refused by the most that a balance may be where all
 /// the money is at most that.
@@ -22,4 +24,9 @@ pub fn rise_is_counted()
 /// are all units.
 pub fn money_is_counted()
     ensures { MoneyIsCounted }
+{}
+
+/// A resource row or a box that is put keeps the counts of all accounts those of their rows.
+pub fn counts_follow()
+    ensures { CountsFollow }
 {}

@@ -1,9 +1,11 @@
 //! The minimum balances of what a transaction changed.
 ghost use Rattle.std.specs.Prelude.{◌≡◌, ◌^◌, ◌≤◌, Option, Some, None, IfSome};
 ghost use Rattle.al_rows.specs.Finite.{first_some};
+ghost use Rattle.al_rows.specs.Limits.{max_balance};
 ghost use Rattle.al_rows.specs.Rows.{AccountInRange, InRange, IsKept};
-ghost use Rattle.al_moves.specs.Moves.{earned, lacking, share_of, shortfall};
-ghost use Rattle.al_moves.specs.Works.{at, now_at, nows};
+ghost use Rattle.al_moves.specs.Accounts.{earned, share_of};
+ghost use Rattle.al_moves.specs.Minimum.{lacking, shortfall};
+ghost use Rattle.al_moves.specs.Held.{at, now_at, nows};
 
 use crate::Rule;
 use crate::held::Held;
@@ -26,7 +28,7 @@ pub fn share_of(r: &AccountRow) -> Share
 // The rewards of an account that are not yet in its balance.
 pub fn earned(level: u64, r: &AccountRow) -> u64
     ensures value { result ≡ earned level r.now }
-    ensures most { result ≤ 10000000000000000 }
+    ensures most { result ≤ max_balance }
 {
     pending(&share_of(r), level)
 }

@@ -1,6 +1,6 @@
 //! The rules that refuse, with what they keep.
 ghost use Rattle.std.specs.Prelude.{◌≡◌, ℕ};
-ghost use Rattle.al_moves.specs.Moves.{held_until, of_account, plain_rule, too_few, too_little};
+ghost use Rattle.al_moves.specs.Rules.{held_until, of_account, plain_rule, too_few, too_little};
 
 use al_base::Address;
 use std::alloc::AllocError;

@@ -2,8 +2,7 @@
 ghost use Rattle.std.specs.Prelude.{◌≡◌};
 ghost use Rattle.std.specs.BTreeMap.{IsOrdered};
 ghost use Rattle.al_base.specs.Keys.{key_cmp};
-ghost use Rattle.al_moves.specs.Counted.{counted_anew};
-ghost use Rattle.al_moves.specs.Money.{share_at};
+ghost use Rattle.al_moves.specs.Totals.{counted_anew, share_at};
 
 use crate::held::Held;
 use crate::minimum::share_of;

@@ -5,23 +5,29 @@ ghost use Rattle.std.specs.BTreeMap.{is_at};
 ghost use Rattle.std.specs.FinMap.{get};
 ghost use Rattle.al_base.specs.Causes.{Rose};
 ghost use Rattle.al_base.specs.Keys.{key_cmp};
-ghost use Rattle.al_rewards.specs.Pending.{max_balance};
 ghost use Rattle.al_rows.specs.Finite.{set_at, or_below, overlaid};
+ghost use Rattle.al_rows.specs.Limits.{max_balance};
 ghost use Rattle.al_rows.specs.Rows.{AccountInRange, CountsInRange, InRange, IsKept, RowMap, account, creator_of, same_row};
-ghost use Rattle.al_moves.specs.Money.{IsWithin, counts};
-ghost use Rattle.al_moves.specs.Moves.{AreChanges, change_of, checked, closed, closed_at, credited, give, has_no_counts, moved, paid, paid_amount, paid_close, put_account, rekeyed, take_in};
-ghost use Rattle.al_moves.specs.Works.{Does, HasOneCreator, IsNoRule, Looks, changed, nonzero};
+ghost use Rattle.al_moves.specs.Money.{IsWithin};
+ghost use Rattle.al_moves.specs.Totals.{counts};
+ghost use Rattle.al_moves.specs.Accounts.{credited, give, moved, put_account, take_in};
+ghost use Rattle.al_moves.specs.Pay.{closed, closed_at, has_no_counts, paid, paid_amount, paid_close, rekeyed};
+ghost use Rattle.al_moves.specs.Minimum.{checked};
+ghost use Rattle.al_moves.specs.Changes.{AreChanges, change_of, changed};
+ghost use Rattle.al_moves.specs.Work.{Does, HasOneCreator, IsNoRule, Looks, nonzero};
 
-use crate::creator::creator_over;
-use crate::held::{
-    Held, Unset, account_held, hold_account, row_held, set_held, set_viewed, viewed,
-};
+mod puts;
+
+use crate::creator::{Creators, creator_over, set_noted};
+use crate::held::{Held, account_held, hold_account, row_held, viewed};
 use crate::minimum::{earned, first_shortfall};
 use crate::totals::totals_of;
 use crate::{Rule, Stop};
 use al_base::{Address, Key, Special, Status};
-use al_rewards::{MAX_BALANCE, Totals};
-use al_rows::{AccountRow, Change, Changes, Row, RowView, ViewFault, account_in, same_row};
+use al_rewards::Totals;
+use al_rows::{
+    AccountRow, Change, Changes, MAX_BALANCE, Row, RowView, ViewFault, account_in, same_row,
+};
 use al_txn::Pay;
 use std::alloc::{AllocError, Global};
 use std::collections::BTreeMap;
@@ -39,11 +45,14 @@ pub struct Work<V: RowView> {
     special: Special,
     rows: BTreeMap<Key, Held>,
     started: Vec<(Key, Option<Row>)>,
+    creators: Creators,
 }
 
 impl<V: RowView> Model for Work<V> {
     ghost use Rattle.al_rows.specs.Finite.{overlaid};
-    ghost use Rattle.al_moves.specs.Works.{IsWork, Worked, nows};
+    ghost use Rattle.al_moves.specs.Creators.{AreNoted};
+    ghost use Rattle.al_moves.specs.Held.{IsWork, nows};
+    ghost use Rattle.al_moves.specs.Work.{Worked};
     ghost use Rattle.std.specs.FinMap as map;
     ghost use Rattle.std.specs.Coded.{codes};
     ghost use Rattle.al_base.specs.Keys.{key_cmp};
@@ -65,7 +74,7 @@ impl<V: RowView> Model for Work<V> {
       lender = V.lender w.view;
     } };
 
-    ghost invariant = { λ w. IsWork V.tells (V.rows w.view) w.rows.entries w.started.items };
+    ghost invariant = { λ w. IsWork V.tells (V.rows w.view) w.rows.entries w.started.items × AreNoted w.rows.entries w.creators };
 }
 
 impl<V: RowView> Work<V> {
@@ -81,6 +90,7 @@ impl<V: RowView> Work<V> {
             special,
             rows: BTreeMap::new(alloc),
             started: Vec::new(alloc),
+            creators: BTreeMap::new(alloc),
         }
     }
 
@@ -106,15 +116,15 @@ impl<V: RowView> Work<V> {
     }
 
     /// The creator of an asset or an application with the changes so far: the address whose row
-    /// of it has its params, and the least where there are more. It goes over the rows changed so
-    /// far. Nothing is said where two addresses had its params before the block, which no sound
-    /// state has.
+    /// of it has its params, and the least where there are more. It goes over no rows: it asks the
+    /// view, and looks up what is noted of the id. Nothing is said where two addresses had its
+    /// params before the block, which no sound state has.
     pub fn creator(&mut self, id: u64) -> Result<Option<Address>, Stop<V::Fault>>
         ensures looks { Looks V.tells self.old self.new result }
         ensures value { V.tells ≡ true → HasOneCreator self.old.block id → IfOk result (λ who. who ≡ creator_of self.old.now id) }
     {
         match self.view.creator(id) {
-            Ok(viewed) => Ok(creator_over(id, viewed, &self.rows)),
+            Ok(viewed) => Ok(creator_over(id, viewed, &self.creators, &self.rows)),
             Err(ViewFault::Failed(fault)) => Err(Stop::View(fault)),
             Err(ViewFault::Memory) => Err(Stop::Memory),
         }
@@ -127,18 +137,24 @@ impl<V: RowView> Work<V> {
         ensures no_rule { IsNoRule result }
     {
         let row = nonzero(key, row);
-        match set_held(&mut self.rows, &mut self.started, key, row) {
-            Ok(()) => Ok(()),
-            Err(Unset::Memory) => Err(Stop::Memory),
-            Err(Unset::Absent(row)) => set_viewed(
-                self.alloc,
-                &mut self.view,
-                &mut self.rows,
-                &mut self.started,
-                key,
-                row,
-            ),
-        }
+        self.put(key, row)
+    }
+
+    // Makes this the row under a key.
+    fn put(&mut self, key: &Key, row: Option<Row>) -> Result<(), Stop<V::Fault>>
+        requires { IfSome row (IsKept key.now) }
+        ensures done { Does V.tells (Ok (set_at self.old.now key.now row)) self.old self.new result }
+        ensures no_rule { IsNoRule result }
+    {
+        set_noted(
+            self.alloc,
+            &mut self.view,
+            &mut self.rows,
+            &mut self.started,
+            &mut self.creators,
+            key,
+            row,
+        )
     }
 }
 
@@ -167,7 +183,7 @@ impl<V: RowView> Work<V> {
 
 impl<V: RowView> Work<V> {
     // An account gives an amount.
-    #[tactic(auto, unfolding(crate::specs::Moves::give))]
+    #[tactic(auto, unfolding(crate::specs::Accounts::give))]
     fn give(&mut self, who: &Address, amount: u64) -> Result<(), Stop<V::Fault>>
         ensures { Does V.tells (give self.old.level who.now amount self.old.now) self.old self.new result }
     {
@@ -185,7 +201,7 @@ impl<V: RowView> Work<V> {
     }
 
     // An account takes an amount in.
-    #[tactic(auto, unfolding(crate::specs::Moves::take_in))]
+    #[tactic(auto, unfolding(crate::specs::Accounts::take_in))]
     fn take_in(&mut self, who: &Address, amount: u64) -> Result<(), Stop<V::Fault>>
         ensures { Does V.tells (take_in self.old.level who.now amount self.old.now) self.old self.new result }
     {
@@ -203,7 +219,7 @@ impl<V: RowView> Work<V> {
     }
 
     /// Moves an amount from one account to another.
-    #[tactic(auto, unfolding(crate::specs::Moves::moved))]
+    #[tactic(auto, unfolding(crate::specs::Accounts::moved))]
     pub fn move_algos(
         &mut self,
         from: &Address,
@@ -229,7 +245,7 @@ impl<V: RowView> Work<V> {
     }
 
     // The whole rest goes to the close address, and then the row.
-    #[tactic(auto, unfolding(crate::specs::Moves::closed_at))]
+    #[tactic(auto, unfolding(crate::specs::Pay::closed_at))]
     fn close_at(&mut self, who: &Address, to: &Address, r: AccountRow) -> Result<(), Stop<V::Fault>>
         requires { AccountInRange r }
         ensures { Does V.tells (closed_at self.old.level who.now to.now r self.old.now) self.old self.new result }
@@ -241,7 +257,7 @@ impl<V: RowView> Work<V> {
         self.set(&Key::Account(*who), None)
     }
 
-    #[tactic(auto, unfolding(crate::specs::Moves::closed))]
+    #[tactic(auto, unfolding(crate::specs::Pay::closed))]
     fn close(&mut self, who: &Address, to: &Address) -> Result<(), Stop<V::Fault>>
         ensures { Does V.tells (closed self.old.level who.now to.now self.old.now) self.old self.new result }
     {
@@ -249,7 +265,7 @@ impl<V: RowView> Work<V> {
         self.close_at(who, to, r)
     }
 
-    #[tactic(auto, unfolding(crate::specs::Moves::paid_amount))]
+    #[tactic(auto, unfolding(crate::specs::Pay::paid_amount))]
     fn pay_amount(&mut self, who: &Address, p: &Pay) -> Result<(), Stop<V::Fault>>
         ensures { Does V.tells (paid_amount self.old.level who.now p.now self.old.now) self.old self.new result }
     {
@@ -259,7 +275,7 @@ impl<V: RowView> Work<V> {
         self.move_algos(who, &p.receiver, p.amount)
     }
 
-    #[tactic(auto, unfolding(crate::specs::Moves::paid_close))]
+    #[tactic(auto, unfolding(crate::specs::Pay::paid_close))]
     fn pay_close(&mut self, who: &Address, p: &Pay) -> Result<(), Stop<V::Fault>>
         ensures { Does V.tells (paid_close self.old.level who.now p.now self.old.now) self.old self.new result }
     {
@@ -270,7 +286,7 @@ impl<V: RowView> Work<V> {
     }
 
     /// The body of a payment.
-    #[tactic(auto, unfolding(crate::specs::Moves::paid))]
+    #[tactic(auto, unfolding(crate::specs::Pay::paid))]
     pub fn pay(&mut self, who: &Address, p: &Pay) -> Result<(), Stop<V::Fault>>
         ensures { Does V.tells (paid self.old.level who.now p.now self.old.now) self.old self.new result }
     {
@@ -291,7 +307,7 @@ impl<V: RowView> Work<V> {
 
     /// Sets who signs for an account, itself where that is its own address. A zero address
     /// changes nothing.
-    #[tactic(auto, unfolding(crate::specs::Moves::rekeyed))]
+    #[tactic(auto, unfolding(crate::specs::Pay::rekeyed))]
     pub fn rekey(&mut self, who: &Address, to: &Address) -> Result<(), Stop<V::Fault>>
         ensures { Does V.tells (rekeyed who.now to.now self.old.now) self.old self.new result }
     {
@@ -364,6 +380,7 @@ impl<V: RowView> Work<V> {
             round: _,
             special: _,
             started: _,
+            creators: _,
         } = self;
         (changes(alloc, rows), view)
     }

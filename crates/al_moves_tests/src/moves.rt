@@ -1,10 +1,10 @@
 ghost use Rattle.std.specs.Prelude.{IfOk};
 ghost use Rattle.al_rows.specs.Rows.{AssetParamsInRange, HoldingInRange};
 
-use al_base::{Address, AssetParams, Bytes, Key, Special, Status};
+use al_base::{Address, AssetParams, BoxName, Bytes, Key, Special, Status};
 use al_moves::{Changes, Rule, Stop, Work};
 use al_rewards::{Count, Totals};
-use al_rows::{AccountRow, AssetRow, Holding, MapView, Never, Row, account_in};
+use al_rows::{AccountRow, AssetRow, BoxRow, Holding, MapView, Never, Row, account_in};
 use al_txn::Pay;
 use std::alloc::{AllocError, Global};
 use std::collections::BTreeMap;
@@ -289,6 +289,38 @@ fn creators(rt: HostRuntime) -> Result<(), Fail> {
         assert!(rt; work.creator(7).ok() == Some(creator));
         assert!(rt; work.creator(8).ok() == Some(None));
     }
+    Ok(())
+}
+
+fn put_held(alloc: Global, work: &mut Work<MapView>) -> Result<(), Stop<Never>> {
+    match created_and_held(alloc) {
+        Ok(row) => work.put_resource(&PAYER, 7, Some(Row::Asset(row))),
+        Err(_) => Err(Stop::Memory),
+    }
+}
+
+#[test]
+fn counts(rt: HostRuntime) -> Result<(), Fail> {
+    let special = Special {
+        sink: SINK,
+        pool: POOL,
+    };
+    let view = MapView::new(rt.alloc(), BTreeMap::new(rt.alloc()));
+    let mut work = Work::new(rt.alloc(), view, special, 0, 1);
+    put_held(rt.alloc(), &mut work).ok().ok_or("put")?;
+    let row = work.row(&Key::Account(PAYER)).ok().ok_or("row")?;
+    let account = account_in(&row);
+    assert!(rt; account.assets_created == 1 && account.assets_held == 1);
+    work.put_resource(&PAYER, 7, None).ok().ok_or("put")?;
+    let row = work.row(&Key::Account(PAYER)).ok().ok_or("row")?;
+    assert!(rt; row.is_none());
+    let name = BoxName::new(b"a").ok_or("name")?;
+    let value = Bytes::of(rt.alloc(), b"")?;
+    work.put_box(9, &name, Some(Row::Box(BoxRow { value })))
+        .ok()
+        .ok_or("put")?;
+    let row = work.row(&Key::Box(9, name)).ok().ok_or("row")?;
+    assert!(rt; row.is_some());
     Ok(())
 }
 

@@ -3,10 +3,11 @@ use Rattle.std.specs.Prelude.{ℕ, ◌-◌, ◌*◌, ◌/◌, min, Bool, true, f
 use Rattle.al_base.specs.declared.account.Status.{Status}
 use Rattle.al_base.specs.declared.account.Status.TheVariants.{Offline, Online, NotParticipating}
 use Rattle.al_rewards.specs.declared.share.Share.{Share}
+use Rattle.al_rows.specs.Limits.{max_balance}
 
--- the most that a balance may be, in microAlgos
-abbrev pub max_balance : ℕ
-max_balance = 10000000000000000
+-- a unit, in microAlgos: one Algo
+abbrev pub reward_unit : ℕ
+reward_unit = 1000000
 
 -- an account that does not participate earns nothing
 abbrev pub is_apart : Status → Bool
@@ -16,4 +17,4 @@ is_apart NotParticipating = true
 
 -- the rewards that were earned and not yet given
 unfoldable pub pending : ℕ → Share → ℕ
-pending level s = if is_apart s.status || nat_le level s.base then 0 else min max_balance (s.balance / 1000000 * (level - s.base))
+pending level s = if is_apart s.status || nat_le level s.base then 0 else min max_balance (s.balance / reward_unit * (level - s.base))

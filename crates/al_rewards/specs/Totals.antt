@@ -7,7 +7,7 @@ use Rattle.al_base.specs.declared.account.Status.TheVariants.{Offline, Online, N
 use Rattle.al_rewards.specs.declared.share.Share.{Share}
 use Rattle.al_rewards.specs.declared.totals.Count.{Count}
 use Rattle.al_rewards.specs.declared.totals.Totals.{Totals}
-use Rattle.al_rewards.specs.Pending.{pending}
+use Rattle.al_rewards.specs.Pending.{pending, reward_unit}
 
 -- nothing
 abbrev pub no_count : Count
@@ -18,7 +18,7 @@ no_totals level = record { level = level; online = no_count; offline = no_count;
 
 -- an account's money at a level, and its units
 unfoldable pub count_of : ℕ → Share → Count
-count_of level s = record { money = s.balance + pending level s; units = s.balance / 1000000 }
+count_of level s = record { money = s.balance + pending level s; units = s.balance / reward_unit }
 
 abbrev pub plus : Count → Count → Count
 plus c d = record { money = c.money + d.money; units = c.units + d.units }

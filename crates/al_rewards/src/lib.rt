@@ -11,7 +11,7 @@ mod state;
 mod totals;
 mod totals_record;
 
-pub use share::{MAX_BALANCE, Share, pending};
+pub use share::{REWARD_UNIT, Share, pending};
 pub use state::RewardsState;
 pub use totals::{Count, Totals};
 pub use totals_record::{encode_totals, totals_laws};

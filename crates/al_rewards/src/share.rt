@@ -1,11 +1,13 @@
 //! An account's share of the rewards.
 ghost use Rattle.std.specs.Prelude.{◌≡◌, ◌≤◌};
-ghost use Rattle.al_rewards.specs.Pending.{max_balance, pending};
+ghost use Rattle.al_rewards.specs.Pending.{pending};
+ghost use Rattle.al_rows.specs.Limits.{max_balance};
 
 use al_base::Status;
+use al_rows::MAX_BALANCE;
 
-/// The most that a balance may be, in microAlgos. Pending rewards stop there too.
-pub const MAX_BALANCE: u64 = 10_000_000_000_000_000;
+/// A unit, in microAlgos: one Algo.
+pub const REWARD_UNIT: u64 = 1_000_000;
 
 /// What the rewards of an account depend on.
 #[derive(Clone, Copy, Debug, PartialEq, Eq)]
@@ -19,7 +21,8 @@ pub struct Share {
 }
 
 /// The rewards, in microAlgos, that an account has earned at this level and not yet been given.
-/// They follow the Algorand ledger specification: the units times the rise of the level.
+/// They follow the Algorand ledger specification: the units times the rise of the level, at most
+/// what a balance may be.
 #[tactic(auto, unfolding(crate::specs::Pending::pending))]
 pub fn pending(share: &Share, level: u64) -> u64
     ensures value { result ≡ pending level share.now }
@@ -28,7 +31,7 @@ pub fn pending(share: &Share, level: u64) -> u64
     if share.status == Status::NotParticipating || share.base >= level {
         return 0;
     }
-    (share.balance / 1_000_000)
+    (share.balance / REWARD_UNIT)
         .saturating_mul(level - share.base)
         .min(MAX_BALANCE)
 }

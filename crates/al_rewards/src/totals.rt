@@ -4,6 +4,7 @@ ghost use Rattle.std.specs.Option.{option_copied};
 ghost use Rattle.al_rewards.specs.declared.totals.Totals.{Totals};
 ghost use Rattle.al_rewards.specs.Totals.{AreTotals, all_units, and_share, capped_count, capped_totals, count_of, earn, minus, no_totals, plus, raised, without_share};
 
+use crate::share::REWARD_UNIT;
 use crate::{Share, pending};
 use al_base::Status;
 
@@ -38,7 +39,7 @@ impl Count {
         let money = share.balance.saturating_add(pending(share, level));
         Count {
             money: self.money.saturating_add(money),
-            units: self.units.saturating_add(share.balance / 1_000_000),
+            units: self.units.saturating_add(share.balance / REWARD_UNIT),
         }
     }
 
@@ -50,7 +51,7 @@ impl Count {
         let money = share.balance.saturating_add(pending(share, level));
         Count {
             money: self.money.saturating_sub(money),
-            units: self.units.saturating_sub(share.balance / 1_000_000),
+            units: self.units.saturating_sub(share.balance / REWARD_UNIT),
         }
     }
 

@@ -1,2 +1,3 @@
 pub mod Finite
+pub mod Limits
 pub mod Rows

@@ -22,6 +22,7 @@ use Rattle.al_rows.specs.declared.row.Row.{Row}
 use Rattle.al_rows.specs.declared.row.Row.TheVariants as row
 use Rattle.al_rows.specs.declared.stored.Stored.{Stored}
 use Rattle.al_rows.specs.Finite.{set_at, map_entries, first_some}
+use Rattle.al_rows.specs.Limits.{max_balance, max_count}
 
 -- the rows under their keys
 abbrev pub RowMap : Type 0
@@ -31,23 +32,21 @@ RowMap = FinMap key_cmp Row
 abbrev pub bare : FinMap key_cmp Stored → RowMap
 bare rows = map_entries (λ k s. s.row) rows
 
-abbrev pub max_count : ℕ
-max_count = 2 ^ 40
-
+-- the ranges of the counts of an account row
 pub record CountsInRange (r : AccountRow) : Type 0 where
-  pub assets_held : r.assets_held ≤ 2 ^ 40
-  pub assets_created : r.assets_created ≤ 2 ^ 40
-  pub apps_created : r.apps_created ≤ 2 ^ 40
-  pub apps_opted : r.apps_opted ≤ 2 ^ 40
-  pub extra_pages : r.extra_pages ≤ 2 ^ 40
-  pub uints : r.uints ≤ 2 ^ 40
-  pub byte_slices : r.byte_slices ≤ 2 ^ 40
-  pub boxes : r.boxes ≤ 2 ^ 40
-  pub box_bytes : r.box_bytes ≤ 2 ^ 40
+  pub assets_held : r.assets_held ≤ max_count
+  pub assets_created : r.assets_created ≤ max_count
+  pub apps_created : r.apps_created ≤ max_count
+  pub apps_opted : r.apps_opted ≤ max_count
+  pub extra_pages : r.extra_pages ≤ max_count
+  pub uints : r.uints ≤ max_count
+  pub byte_slices : r.byte_slices ≤ max_count
+  pub boxes : r.boxes ≤ max_count
+  pub box_bytes : r.box_bytes ≤ max_count
 
 -- the ranges of an account row
 abbrev pub AccountInRange : AccountRow → Type 0
-AccountInRange r = (r.balance ≤ 10000000000000000) × CountsInRange r
+AccountInRange r = (r.balance ≤ max_balance) × CountsInRange r
 
 abbrev pub ParamsInRange : Option AppParams → Type 0
 ParamsInRange None = ⊤

@@ -25,8 +25,8 @@ use Rattle.std.proofs.lemmas.Slice.Eq.{bytes_eq-Decides}
 use Rattle.al_txn.specs.declared.chain.Chain.{Chain}
 use Rattle.al_txn.specs.declared.txn.Item.{Item}
 use Rattle.al_txn.specs.declared.txn.Txn.{Txn}
-use Rattle.al_moves.specs.Moves.{then_do}
-use Rattle.al_moves.specs.Money.{counts}
+use Rattle.al_moves.specs.Rules.{then_do}
+use Rattle.al_moves.specs.Totals.{counts}
 use Rattle.al_eval.specs.Answers.{IsDeltaOf}
 use Rattle.al_eval.specs.Evaluated.{delta_in}
 use Rattle.al_eval.specs.Past.{entry_of}

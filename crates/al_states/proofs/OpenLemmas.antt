@@ -11,7 +11,7 @@ use Rattle.al_states.specs.Opening.{Opens, IsRefusedGenesis, fault_of}
 use Rattle.al_txn.specs.declared.chain.Chain.{Chain}
 use Rattle.al_block.specs.declared.header.Header.{Header}
 use Rattle.al_block.specs.Hashes.{header_hash_of}
-use Rattle.al_moves.specs.Money.{counts}
+use Rattle.al_moves.specs.Totals.{counts}
 use Rattle.al_genesis.specs.declared.genesis.GenesisFault.{GenesisFault}
 use Rattle.al_genesis.specs.declared.genesis.GenesisFault.TheVariants as faults
 use Rattle.al_genesis.specs.Genesis.{GenesisMeansUnless, number_of}

@@ -12,7 +12,7 @@ use Rattle.al_block.specs.declared.header.Header.{Header}
 use Rattle.al_deltas.specs.declared.delta.RoundDelta.{RoundDelta}
 use Rattle.al_block.specs.Block.{IsBlock, block, block_fields}
 use Rattle.al_block.specs.Header.{header, header_fields}
-use Rattle.al_moves.specs.Moves.{then_do}
+use Rattle.al_moves.specs.Rules.{then_do}
 use Rattle.al_eval.specs.Steps.{Refusal}
 use Rattle.al_eval.specs.State.{State, step, replay}
 use Rattle.al_eval.specs.Sound.{Sound}

@@ -14,7 +14,7 @@ use Rattle.al_deltas.specs.declared.delta.RoundDelta.{RoundDelta}
 use Rattle.al_deltas.specs.Queue.{Queue, StoredMap, IsKeptDelta, after_delta, last_of, rows_after}
 use Rattle.al_rows.specs.Rows.{bare}
 use Rattle.al_rewards.specs.declared.totals.Totals.{Totals}
-use Rattle.al_moves.specs.Money.{counts}
+use Rattle.al_moves.specs.Totals.{counts}
 use Rattle.al_eval.specs.Answers.{IsDeltaOf}
 use Rattle.al_eval.specs.State.{State, counts_in, step, replay}
 use Rattle.al_eval.specs.Sound.{IsStepRefusal, Sound}

@@ -1,8 +1,8 @@
 use Rattle.std.proofs.Common.{◌≡◌, ◌∙◌, ap, ap₂, sym, subst, ℕ, Ok, Result, map}
 use Rattle.std.proofs.lemmas.Result.{IfOk-at_ok}
 use Rattle.al_rows.specs.Rows.{RowMap}
-use Rattle.al_moves.specs.Works.{Worked}
-use Rattle.al_moves.specs.Moves.{AreChanges, change_of}
+use Rattle.al_moves.specs.Work.{Worked}
+use Rattle.al_moves.specs.Changes.{AreChanges, change_of}
 use Rattle.al_eval.specs.Refusals.{Refusal, IsDue, refusal_of}
 use Rattle.al_eval.specs.Steps.{block_rows}
 use Rattle.al_eval.proofs.Ends.{totals_follow}

@@ -1,5 +1,5 @@
 use Rattle.std.proofs.Common.{◌≡◌, ◌≤◌, ◌+◌, ◌*◌, ◌^◌, ◌++◌, true, drop}
-use Rattle.al_moves.specs.Works.{IsFixed}
+use Rattle.al_moves.specs.Work.{IsFixed}
 use Rattle.al_eval.specs.Items.{all_items}
 use Rattle.al_eval.proofs.transact.all_items.Given as goal
 

@@ -5,7 +5,7 @@ use Rattle.al_base.specs.declared.key.Key.TheVariants as key
 use Rattle.al_rows.specs.Rows.{AccountInRange, InRange, account_in}
 use Rattle.al_rows.proofs.Keys.{derived_order}
 use Rattle.al_moves.specs.declared.held.Held.{Held}
-use Rattle.al_moves.specs.Works.{at}
+use Rattle.al_moves.specs.Held.{at}
 use Rattle.al_moves.proofs.Holds.{held-range}
 use Rattle.al_moves.proofs.Overlays.{at-nows}
 use Rattle.al_moves.proofs.held.account_held.Goals as goal

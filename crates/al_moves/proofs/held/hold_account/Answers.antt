@@ -2,7 +2,7 @@ use Rattle.std.proofs.Common.{◌∙◌, ap, sym}
 use Rattle.std.specs.FinMap.{get}
 use Rattle.al_base.specs.declared.key.Key.TheVariants as key
 use Rattle.al_rows.specs.Rows.{RowMap, account_in}
-use Rattle.al_moves.specs.Works.{nows}
+use Rattle.al_moves.specs.Held.{nows}
 use Rattle.al_moves.proofs.Overlays.{IsWork-view, none-now, now_below}
 use Rattle.al_moves.proofs.held.hold_account.Goals as goal
 

@@ -1,6 +1,6 @@
 use Rattle.std.proofs.Common.{◌≡◌, ◌++◌, take, drop, Option}
 use Rattle.al_rows.specs.declared.row.Row.{Row}
-use Rattle.al_moves.specs.Works.{put_first}
+use Rattle.al_moves.specs.Held.{put_first}
 use Rattle.al_moves.proofs.held.place_of.Given as goal
 
 abbrev pub invariant-loop-i : goal.invariant-loop-i

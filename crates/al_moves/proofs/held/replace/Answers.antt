@@ -5,7 +5,7 @@ use Rattle.al_base.specs.Keys.{key_cmp}
 use Rattle.al_rows.specs.declared.row.Row.{Row}
 use Rattle.al_rows.proofs.Keys.{derived_order}
 use Rattle.al_moves.specs.declared.held.Held.{Held}
-use Rattle.al_moves.specs.Works.{at, with_row}
+use Rattle.al_moves.specs.Held.{at, with_row}
 use Rattle.al_moves.proofs.held.replace.Goals as goal
 
 pub returns-in-Some-clause-ok : goal.returns-in-Some-clause-ok

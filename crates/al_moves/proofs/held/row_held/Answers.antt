@@ -4,7 +4,7 @@ use Rattle.al_base.specs.declared.key.Key.{Key}
 use Rattle.al_rows.specs.Rows.{InRange}
 use Rattle.al_rows.proofs.Keys.{derived_order}
 use Rattle.al_moves.specs.declared.held.Held.{Held}
-use Rattle.al_moves.specs.Works.{at}
+use Rattle.al_moves.specs.Held.{at}
 use Rattle.al_moves.proofs.Overlays.{at-nows}
 use Rattle.al_moves.proofs.held.row_held.Goals as goal
 

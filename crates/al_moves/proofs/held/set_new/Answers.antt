@@ -2,7 +2,7 @@ use Rattle.std.proofs.Common.{◌∙◌, sym, ap, subst, List, Option}
 use Rattle.al_base.specs.declared.key.Key.{Key}
 use Rattle.al_rows.specs.declared.row.Row.{Row}
 use Rattle.al_rows.specs.Finite.{overlaid}
-use Rattle.al_moves.specs.Works.{IsWork, nows}
+use Rattle.al_moves.specs.Held.{IsWork, nows}
 use Rattle.al_moves.proofs.Holds.{added-now, added-start, added-started, added-work}
 use Rattle.al_moves.proofs.held.set_new.Goals as goal
 

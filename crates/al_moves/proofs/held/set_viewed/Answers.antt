@@ -2,7 +2,7 @@ use Rattle.std.proofs.Common.{◌∙◌, ap, sym}
 use Rattle.std.specs.FinMap.{get}
 use Rattle.al_rows.specs.Finite.{overlaid}
 use Rattle.al_rows.specs.Rows.{RowMap}
-use Rattle.al_moves.specs.Works.{nows}
+use Rattle.al_moves.specs.Held.{nows}
 use Rattle.al_moves.proofs.Overlays.{IsWork-view}
 use Rattle.al_moves.proofs.held.set_viewed.Goals as goal
 

@@ -3,10 +3,10 @@ use Rattle.std.specs.BTreeMap.{get}
 use Rattle.al_base.specs.declared.key.Key.{Key}
 use Rattle.al_rows.specs.Finite.{or_below}
 use Rattle.al_rows.proofs.Keys.{derived_order}
-use Rattle.al_moves.specs.Moves.{shortfall}
+use Rattle.al_moves.specs.Minimum.{shortfall}
 use Rattle.al_rows.specs.Rows.{InRange}
 use Rattle.al_moves.specs.declared.held.Held.{Held}
-use Rattle.al_moves.specs.Works.{at}
+use Rattle.al_moves.specs.Held.{at}
 use Rattle.al_moves.proofs.Overlays.{at-nows}
 use Rattle.al_moves.proofs.minimum.shortfall_at.Goals as goal
 

@@ -1,5 +1,5 @@
 use Rattle.std.proofs.Common.{◌≡◌}
-use Rattle.al_moves.specs.Counted.{counted_anew}
+use Rattle.al_moves.specs.Totals.{counted_anew}
 use Rattle.al_moves.proofs.totals.totals_of.Given as goal
 
 abbrev pub invariant-loop-held : goal.invariant-loop-held

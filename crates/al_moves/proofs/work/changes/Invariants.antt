@@ -1,6 +1,5 @@
 use Rattle.std.proofs.Common.{◌≡◌, ◌++◌, map}
-use Rattle.al_moves.specs.Moves.{change_of}
-use Rattle.al_moves.specs.Works.{changed}
+use Rattle.al_moves.specs.Changes.{change_of, changed}
 use Rattle.al_moves.proofs.work.changes.Given as goal
 
 abbrev pub invariant-loop-key : goal.invariant-loop-key

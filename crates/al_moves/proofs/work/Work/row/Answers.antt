@@ -1,7 +1,8 @@
 use Rattle.std.proofs.Common.{◌≡◌, ◌∙◌, ap, sym, subst, IfOk, Option}
 use Rattle.std.specs.FinMap.{get}
 use Rattle.al_rows.specs.declared.row.Row.{Row}
-use Rattle.al_moves.specs.Works.{Worked, nows}
+use Rattle.al_moves.specs.Held.{nows}
+use Rattle.al_moves.specs.Work.{Worked}
 use Rattle.al_moves.proofs.Overlays.{now_changed, now_below}
 use Rattle.al_moves.proofs.work.Work.row.Goals as goal
 
