@@ -11,5 +11,5 @@ invariant-loop-i g l =
     (requests : List Message) × (told : List Told)
     × Serving (held l.fn.states) (held l.states) (g.S.Source.left l.fn.source) (g.S.Source.left l.source) (g.T.Sink.written l.fn.sink) (g.T.Sink.written l.sink) l.inbox requests told
     × (length requests ≡ l.i) × (l.done ≡ length (flat_map spell requests)) × (l.done ≤ l.i * 5259264)
-    × (g.S.Source.faults l.fn.source ≤ g.S.Source.faults l.source) × (g.T.Sink.faults l.fn.sink ≤ g.T.Sink.faults l.sink)
+    × (g.S.Source.faults l.source ≡ g.S.Source.faults l.fn.source) × (g.T.Sink.faults l.sink ≡ g.T.Sink.faults l.fn.sink)
     × IsStates l.states × (l.caller.seen ≡ length (held l.states).blocks)
