@@ -22,7 +22,7 @@ use Rattle.al_states.specs.declared.states.Told.{Told}
 use Rattle.al_states.specs.Held.{Held}
 use Rattle.al_states.specs.Replies.{Replies, IsAnswer, Grows, IsAnswered}
 use Rattle.al_session.specs.Taking.{Grown, IsRefusedPiece, IsCounted, Nexts}
-use Rattle.al_session.specs.Connection.{told_text, IsToldOf, Answers, last_front, GrowsBy, Grow, Serving, Serves, EndsBy, EndsAs, IsWritten}
+use Rattle.al_session.specs.Connection.{most_requests, told_text, IsToldOf, Answers, last_front, GrowsBy, Grow, Serving, Serves, EndsBy, EndsAs, IsWritten}
 use Rattle.al_session.proofs.TakingLemmas.{left_then, left_none}
 
 -- ---- lists of blocks
@@ -267,7 +267,7 @@ no_memory before after a b c w v waiting lost requests told s left =
     let more : Grown waiting (waiting ++ lost) b c = record { got = lost; more = refl; left = left } in
     ends_whole before after a c w v (waiting ++ lost) requests told ended.Memory (took before after a b c w v waiting (waiting ++ lost) requests told s more) (joined_none told) refl
 
-pub spent : (before after : Held) (a b w v : Option (List ℕ)) (waiting : List ℕ) (requests : List Message) (told : List Told) → Serving before after a b w v waiting requests told → length requests ≡ 1000000 → Serves before after a b w v ended.Spent
+pub spent : (before after : Held) (a b w v : Option (List ℕ)) (waiting : List ℕ) (requests : List Message) (told : List Told) → Serving before after a b w v waiting requests told → length requests ≡ most_requests → Serves before after a b w v ended.Spent
 spent before after a b w v waiting requests told s all = ends_whole before after a b w v waiting requests told ended.Spent s (joined_none told) (refl, all)
 
 -- a piece was refused

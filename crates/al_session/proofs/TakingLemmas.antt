@@ -6,6 +6,7 @@ use Rattle.al_base.specs.Causes.{Left}
 use Rattle.al_http.specs.declared.head.Head.{Head}
 use Rattle.al_http.specs.declared.asking.Request.{Request}
 use Rattle.al_http.specs.declared.asking.Asked.{Asked}
+use Rattle.al_http.specs.Limits.{most_body, most_message}
 use Rattle.al_http.specs.Requests.{Message, IsRequest, IsBuilt, AsksFor, spell, IsUnfinished, IsBadHead}
 use Rattle.al_http.specs.Heads.{IsHeadAt, IsAsked}
 use Rattle.al_session.specs.Taking.{Grown, Stops, IsNoPiece, IsRefusedPiece, HeadNexts, IsPiece, Nexts}
@@ -101,7 +102,7 @@ not_asked h None not x = x
 not_asked h (Some a) not x = absurd (not a refl)
 
 -- the bytes of a request
-pub request_length : (m : Message) (ask : Request) (used size : ℕ) → used ≡ length (print_request m.head) → size ≡ length m.body → IsRequest m → AsksFor m.head ask size → (used + size ≡ length (spell m)) × (used + size ≤ 5259264) × (size ≤ 5242880)
+pub request_length : (m : Message) (ask : Request) (used size : ℕ) → used ≡ length (print_request m.head) → size ≡ length m.body → IsRequest m → AsksFor m.head ask size → (used + size ≡ length (spell m)) × (used + size ≤ most_message) × (size ≤ most_body)
 request_length m ask used size head long valid asks =
-    let most : size ≤ 5242880 = body_most ask size asks.2 in
+    let most : size ≤ most_body = body_most ask size asks.2 in
     (omega (arith, head, long, length-append (print_request m.head) m.body), omega (arith, head, valid.built.limits.bytes, most), most)

@@ -68,6 +68,10 @@ pub record Serving (before after : Held) (left_before left_now written_before wr
 
 -- ---- its end
 
+-- the most requests that one connection asks
+abbrev pub most_requests : ℕ
+most_requests = 1000000
+
 -- a piece that is refused, and the text that refuses it
 abbrev pub IsRefusal : List ℕ → List (List ℕ) → Type 0
 IsRefusal rest behind = IsRefusedPiece rest × (behind ≡ answer_text not_built_answer ∷ [])
@@ -88,7 +92,7 @@ EndsAs (ended.CutShort at) left_now taken requests rest behind = (behind ≡ [])
 EndsAs ended.Unreadable left_now taken requests rest behind = IsRefusal rest behind
 EndsAs ended.SourceFault left_now taken requests rest behind = (behind ≡ []) × IsUnfinished rest
 EndsAs ended.SinkFault left_now taken requests rest behind = (behind ≡ []) ⊎ IsRefusal rest behind
-EndsAs ended.Spent left_now taken requests rest behind = (behind ≡ []) × (length requests ≡ 1000000)
+EndsAs ended.Spent left_now taken requests rest behind = (behind ≡ []) × (length requests ≡ most_requests)
 EndsAs ended.Memory left_now taken requests rest behind = behind ≡ []
 
 -- whole texts, and a front of the last

@@ -4,6 +4,7 @@ use Rattle.std.specs.Str.{bytes_eq}
 use mathlib.Core.List.{IsPrefix}
 use Rattle.al_base.specs.Causes.{Left, Wrote, Rose}
 use Rattle.al_base.specs.Folders.{FileMap}
+use Rattle.al_block.specs.Block.{most_bytes}
 use Rattle.al_genesis.specs.declared.genesis.Genesis.{Genesis}
 use Rattle.al_genesis.specs.Genesis.{IsGenesis}
 use Rattle.al_eval.specs.Start.{start}
@@ -91,9 +92,9 @@ pub record IsSilent (before after : Outside) : Type 0 where
   pub source_kept : after.source_faults ≡ before.source_faults
   pub sink_kept : after.sink_faults ≡ before.sink_faults
 
--- the most bytes of a genesis file
+-- the most bytes of a genesis file, which are those of a block
 abbrev pub most_genesis : ℕ
-most_genesis = 5242880
+most_genesis = most_bytes
 
 -- this is what the name holds, where the files are told
 abbrev pub Holds : Option FileMap → List ℕ → Option (List ℕ) → Type 0

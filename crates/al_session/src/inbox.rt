@@ -1,11 +1,15 @@
 //! The bytes of a connection that wait to be used.
 ghost use Rattle.std.specs.Prelude.{◌≡◌, ◌≤◌, ◌<◌, ◌+◌, ℕ, List, [], ◌++◌, length, drop, codes};
+ghost use Rattle.al_http.specs.Limits.{most_message};
 ghost use Rattle.al_session.specs.Taking.{Fills, HeadNexts, IsCounted, Nexts, Waits};
 
 use al_base::{Failed, Source};
 use al_http::{Head, HeadRead, Request, read_head};
 use std::alloc::{AllocError, Global};
 use std::marker::Model;
+
+/// The most bytes that one take gives.
+const MOST_TAKEN: usize = 4096;
 
 /// Why taking from a source stops.
 #[derive(Clone, Copy, Debug, PartialEq, Eq)]
@@ -64,12 +68,13 @@ pub struct Inbox {
 
 impl Model for Inbox {
     ghost use Rattle.std.specs.Prelude.{List, ℕ, drop, length, ◌≤◌};
+    ghost use Rattle.al_session.specs.Room.{most_waiting};
 
     ghost Value = { List ℕ };
 
     ghost view = { λ b. drop b.start b.bytes.items };
 
-    ghost invariant = { λ b. (b.start ≤ length b.bytes.items) × (length b.bytes.items ≤ 5263360) };
+    ghost invariant = { λ b. (b.start ≤ length b.bytes.items) × (length b.bytes.items ≤ most_waiting) };
 }
 
 impl Inbox {
@@ -105,14 +110,14 @@ impl Inbox {
 
     /// Takes once from the source, into the room of the bytes that went.
     pub fn fill<S: Source>(&mut self, source: &mut S) -> Result<(), Stop>
-        requires { length self.old ≤ 5259264 }
+        requires { length self.old ≤ most_message }
         ensures bytes { Fills self.old self.new (S.left source.old) (S.left source.new) result }
         ensures later { S.faults source.old ≤ S.faults source.new }
         ensures kept { IsCounted (S.faults source.old) (S.faults source.new) result }
     {
         self.bytes.drain(..self.start);
         self.start = 0;
-        let mut piece = [0u8; 4096];
+        let mut piece = [0u8; MOST_TAKEN];
         let n = source.take(&mut piece)?;
         if n == 0 {
             return Err(Stop::End);
@@ -138,7 +143,7 @@ impl Inbox {
 
     // Takes until so many bytes wait.
     fn wait_for<S: Source>(&mut self, source: &mut S, need: usize) -> Result<(), Stop>
-        requires { need ≤ 5259264 }
+        requires { need ≤ most_message }
         ensures bytes { Waits self.old self.new (S.left source.old) (S.left source.new) need result }
         ensures later { S.faults source.old ≤ S.faults source.new }
         ensures kept { IsCounted (S.faults source.old) (S.faults source.new) result }

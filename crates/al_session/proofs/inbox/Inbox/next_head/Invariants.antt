@@ -1,4 +1,5 @@
-use Rattle.std.proofs.Common.{◌≡◌, ◌-◌, length}
+use Rattle.std.proofs.Common.{◌≡◌, ◌+◌, ◌-◌, length}
+use Rattle.al_http.specs.Limits.{most_head}
 use Rattle.al_session.specs.Taking.{Grown}
 use Rattle.al_session.proofs.inbox.Inbox.next_head.Given as goal
 
@@ -9,4 +10,4 @@ invariant-loop-head g l = record {
 }
 
 abbrev pub decreases-loop-head : goal.decreases-loop-head
-decreases-loop-head g l = 16385 - length l.self
+decreases-loop-head g l = most_head + 1 - length l.self
