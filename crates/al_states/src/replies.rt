@@ -1,11 +1,10 @@
 //! The answers of the ledger, by what they say.
-ghost use Rattle.std.specs.Prelude.{◌≡◌, ◌<◌, ◌^◌, Some};
+ghost use Rattle.std.specs.Prelude.{◌≡◌, ◌<◌, ◌^◌};
 ghost use Rattle.std.specs.Option.{option_copied};
-ghost use Rattle.al_http.specs.Answers.{memory_answer, nothing};
-ghost use Rattle.al_http.specs.declared.answer.Answer.TheVariants as answers;
+ghost use Rattle.al_http.specs.Answers.{memory_answer};
 ghost use Rattle.al_states.specs.Replies.{ShowsRefusal, account_answer, broken_at, fork, misspelled, no_row, not_built, short, taken, too_new, undecodable, wrong_header, wrong_prev, wrong_round};
 
-use al_base::{Bytes, Hash};
+use al_base::Hash;
 use al_block::{BlockFault, Field};
 use al_eval::EvalRefusal;
 use al_http::{Answer, ErrorName, More};
@@ -19,22 +18,9 @@ pub fn undecodable(fault: BlockFault) -> Answer
 {
     match fault {
         BlockFault::Decode(fault) => misspelled(fault),
-        BlockFault::Field { name } => misnamed(ErrorName::Field, name),
-        BlockFault::Range { name } => misnamed(ErrorName::Range, name),
+        BlockFault::Field { name } => Answer::refused(ErrorName::Field, More::named(name)),
+        BlockFault::Range { name } => Answer::refused(ErrorName::Range, More::named(name)),
         BlockFault::Memory => memory(),
-    }
-}
-
-fn misnamed(error: ErrorName, name: Bytes) -> Answer
-    ensures { result ≡ answers.Refused 400 error (record nothing { name = Some name }) }
-{
-    Answer::Refused {
-        status: 400,
-        error,
-        more: More {
-            name: Some(name),
-            ..More::nothing()
-        },
     }
 }
 
@@ -42,23 +28,16 @@ fn misspelled(fault: DecodeFault) -> Answer
     ensures { result ≡ misspelled fault }
 {
     match fault {
-        DecodeFault::Truncated { at } => misplaced(ErrorName::Truncated, at),
-        DecodeFault::Malformed { at } => misplaced(ErrorName::Malformed, at),
-        DecodeFault::Trailing { at } => misplaced(ErrorName::Trailing, at),
+        DecodeFault::Truncated { at } => {
+            Answer::refused(ErrorName::Truncated, More::at_byte(at as u64))
+        }
+        DecodeFault::Malformed { at } => {
+            Answer::refused(ErrorName::Malformed, More::at_byte(at as u64))
+        }
+        DecodeFault::Trailing { at } => {
+            Answer::refused(ErrorName::Trailing, More::at_byte(at as u64))
+        }
         DecodeFault::Memory => memory(),
-    }
-}
-
-fn misplaced(error: ErrorName, at: usize) -> Answer
-    ensures { result ≡ answers.Refused 400 error (record nothing { at = Some at }) }
-{
-    Answer::Refused {
-        status: 400,
-        error,
-        more: More {
-            at: Some(at as u64),
-            ..More::nothing()
-        },
     }
 }
 
@@ -72,41 +51,23 @@ pub fn wrong_round(front: u64) -> Answer
     requires { front < 2 ^ 63 }
     ensures { result ≡ wrong_round front }
 {
-    Answer::Refused {
-        status: 409,
-        error: ErrorName::WrongRound,
-        more: More {
-            front: Some(front),
-            next: Some(front + 1),
-            ..More::nothing()
-        },
-    }
+    let more = More {
+        next: Some(front + 1),
+        ..More::at_front(front)
+    };
+    Answer::refused(ErrorName::WrongRound, more)
 }
 
 pub fn fork(front: u64, hash: Hash) -> Answer
     ensures { result ≡ fork front hash }
 {
-    other_chain(ErrorName::Fork, front, hash)
+    Answer::refused(ErrorName::Fork, More::kept(front, hash))
 }
 
 pub fn wrong_prev(front: u64, hash: Hash) -> Answer
     ensures { result ≡ wrong_prev front hash }
 {
-    other_chain(ErrorName::WrongPrev, front, hash)
-}
-
-fn other_chain(error: ErrorName, front: u64, hash: Hash) -> Answer
-    ensures { result ≡ answers.Refused 409 error (record nothing { front = Some front; kept = Some hash }) }
-{
-    Answer::Refused {
-        status: 409,
-        error,
-        more: More {
-            front: Some(front),
-            kept: Some(hash),
-            ..More::nothing()
-        },
-    }
+    Answer::refused(ErrorName::WrongPrev, More::kept(front, hash))
 }
 
 // What a block is answered that the step refuses.
@@ -125,48 +86,29 @@ pub fn refused(front: u64, refusal: EvalRefusal<Never>) -> Answer
 fn wrong_header(front: u64, field: Field) -> Answer
     ensures { result ≡ wrong_header front field }
 {
-    Answer::Refused {
-        status: 422,
-        error: ErrorName::Header,
-        more: More {
-            front: Some(front),
-            field: Some(field),
-            ..More::nothing()
-        },
-    }
+    let more = More {
+        field: Some(field),
+        ..More::at_front(front)
+    };
+    Answer::refused(ErrorName::Header, more)
 }
 
 fn short(front: u64) -> Answer
     ensures { result ≡ short front }
 {
-    Answer::Refused {
-        status: 422,
-        error: ErrorName::PoolShort,
-        more: More {
-            front: Some(front),
-            ..More::nothing()
-        },
-    }
+    Answer::refused(ErrorName::PoolShort, More::at_front(front))
 }
 
 pub fn not_built() -> Answer
     ensures { result ≡ not_built }
 {
-    Answer::Refused {
-        status: 501,
-        error: ErrorName::NotBuilt,
-        more: More::nothing(),
-    }
+    Answer::not_built()
 }
 
 pub fn memory() -> Answer
     ensures { result ≡ memory_answer }
 {
-    Answer::Refused {
-        status: 507,
-        error: ErrorName::Memory,
-        more: More::nothing(),
-    }
+    Answer::memory()
 }
 
 // The refusal by a rule.
@@ -174,21 +116,17 @@ fn broken(front: u64, place: usize, rule: &Rule) -> Answer
     ensures { result ≡ broken_at front place rule.now }
 {
     let who = if rule.number == 42 { None } else { rule.who };
-    Answer::Refused {
-        status: 422,
-        error: ErrorName::Broken,
-        more: More {
-            front: Some(front),
-            place: Some(place as u64),
-            rule: Some(rule.number),
-            has: rule.has,
-            needs: rule.needs,
-            until: rule.until,
-            id: rule.id,
-            who,
-            ..More::nothing()
-        },
-    }
+    let more = More {
+        place: Some(place as u64),
+        rule: Some(rule.number),
+        has: rule.has,
+        needs: rule.needs,
+        until: rule.until,
+        id: rule.id,
+        who,
+        ..More::at_front(front)
+    };
+    Answer::refused(ErrorName::Broken, more)
 }
 
 pub fn account_answer(front: u64, round: u64, level: u64, stored: Option<&Stored>) -> Answer
@@ -211,26 +149,15 @@ pub fn account_answer(front: u64, round: u64, level: u64, stored: Option<&Stored
 pub fn too_new(front: u64) -> Answer
     ensures { result ≡ too_new front }
 {
-    Answer::Refused {
-        status: 404,
-        error: ErrorName::TooNew,
-        more: More {
-            front: Some(front),
-            ..More::nothing()
-        },
-    }
+    Answer::refused(ErrorName::TooNew, More::at_front(front))
 }
 
 fn no_row(front: u64, round: u64) -> Answer
     ensures { result ≡ no_row front round }
 {
-    Answer::Refused {
-        status: 404,
-        error: ErrorName::NoRow,
-        more: More {
-            front: Some(front),
-            round: Some(round),
-            ..More::nothing()
-        },
-    }
+    let more = More {
+        round: Some(round),
+        ..More::at_front(front)
+    };
+    Answer::refused(ErrorName::NoRow, more)
 }
