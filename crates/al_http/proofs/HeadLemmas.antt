@@ -10,6 +10,7 @@ use Rattle.httparse.proofs.GrammarLemmas.{ReadsRequest-append}
 use Rattle.al_http.specs.declared.head.Head.{Head}
 use Rattle.al_http.specs.declared.head.HeadRead.{HeadRead}
 use Rattle.al_http.specs.declared.head.HeadRead.TheVariants as read
+use Rattle.al_http.specs.Limits.{most_head, most_fields}
 use Rattle.al_http.specs.Requests.{IsBadHead}
 use Rattle.al_http.specs.Heads.{IsHeadAt, IsRead}
 
@@ -32,7 +33,7 @@ head_grows buf more head h x = record {
 }
 
 -- no head stands in the first 16,384 bytes, and there are more
-pub bad_length : (front more : List ℕ) → length front ≡ 16384 → HasNoRequest front → 0 < length more → IsBadHead (front ++ more)
+pub bad_length : (front more : List ℕ) → length front ≡ most_head → HasNoRequest front → 0 < length more → IsBadHead (front ++ more)
 bad_length front more long none some = record {
   cause = inr (inr (omega (arith, long, some, length-append front more)));
   never = λ m h behind x w. none h (drop (length (print_request h)) front) (x.0, front_of front (more ++ m) (print_request h) behind (sym (append_assoc front more m) ∙ x.1) (omega (arith, w.bytes, long)));
@@ -45,25 +46,25 @@ bad_grows front more x = record {
   never = λ m h behind y w. x.never (more ++ m) h behind (subst (λ bytes. ReadsRequest bytes h behind) (append_assoc front more m) y) w;
 }
   where
-    by_cause : NeverHasRequest front ⊎ RequestExceeds 64 front ⊎ (16384 < length front) → NeverHasRequest (front ++ more) ⊎ RequestExceeds 64 (front ++ more) ⊎ (16384 < length (front ++ more))
+    by_cause : NeverHasRequest front ⊎ RequestExceeds most_fields front ⊎ (most_head < length front) → NeverHasRequest (front ++ more) ⊎ RequestExceeds most_fields (front ++ more) ⊎ (most_head < length (front ++ more))
     by_cause (inl never) = inl (λ m h rest y. never (more ++ m) h rest (subst (λ bytes. ReadsRequest bytes h rest) (append_assoc front more m) y))
     by_cause (inr (inl (f, rest, is, h, reads, past))) = inr (inl (f, rest ++ more, ap (λ bytes. bytes ++ more) is ∙ append_assoc f rest more, h, reads, past))
     by_cause (inr (inr long)) = inr (inr (omega (arith, long, length-append front more)))
 
 -- what the first 16,384 bytes say of longer bytes
-pub got_in_front : (buf : List ℕ) (head : Head) (h : RequestHead) → IsHeadAt (take 16384 buf) head h → IsHeadAt buf head h
-got_in_front buf head h x = subst (λ bytes. IsHeadAt bytes head h) (take-append-drop 16384 buf) (head_grows (take 16384 buf) (drop 16384 buf) head h x)
+pub got_in_front : (buf : List ℕ) (head : Head) (h : RequestHead) → IsHeadAt (take most_head buf) head h → IsHeadAt buf head h
+got_in_front buf head h x = subst (λ bytes. IsHeadAt bytes head h) (take-append-drop most_head buf) (head_grows (take most_head buf) (drop most_head buf) head h x)
 
-pub bad_in_front : (buf : List ℕ) (found : HeadRead) → IsRead (take 16384 buf) found → ((head : Head) → found ≡ read.Got head → ⊥) → 16384 < length buf → IsBadHead buf
+pub bad_in_front : (buf : List ℕ) (found : HeadRead) → IsRead (take most_head buf) found → ((head : Head) → found ≡ read.Got head → ⊥) → most_head < length buf → IsBadHead buf
 bad_in_front buf (read.Got head) x not long = absurd (not head refl)
 bad_in_front buf read.Partial x not long =
-    let all = take-append-drop 16384 buf in
-    let short = length-take-le 16384 buf (omega (arith, long)) in
-    subst IsBadHead all (bad_length (take 16384 buf) (drop 16384 buf) short x.1 (omega (arith, long, short, ap length all, length-append (take 16384 buf) (drop 16384 buf))))
-bad_in_front buf read.Bad x not long = subst IsBadHead (take-append-drop 16384 buf) (bad_grows (take 16384 buf) (drop 16384 buf) x)
+    let all = take-append-drop most_head buf in
+    let short = length-take-le most_head buf (omega (arith, long)) in
+    subst IsBadHead all (bad_length (take most_head buf) (drop most_head buf) short x.1 (omega (arith, long, short, ap length all, length-append (take most_head buf) (drop most_head buf))))
+bad_in_front buf read.Bad x not long = subst IsBadHead (take-append-drop most_head buf) (bad_grows (take most_head buf) (drop most_head buf) x)
 
 -- what the parser answers, as a head
-pub head_at : (front : List ℕ) (headers : List HeaderSpan) (spans : RequestSpans) (head : Head) (h : RequestHead) → IsRequestAt front headers spans h → IsRequestWithin front headers spans → length front ≤ 16384 → length headers ≤ 64
+pub head_at : (front : List ℕ) (headers : List HeaderSpan) (spans : RequestSpans) (head : Head) (h : RequestHead) → IsRequestAt front headers spans h → IsRequestWithin front headers spans → length front ≤ most_head → length headers ≤ most_fields
     → head.used ≡ spans.len → head.method ≡ span_bytes front spans.method → head.target ≡ span_bytes front spans.path → head.body ≡ size_of (map (header_bytes front) (take spans.headers headers))
     → head.close ≡ ((spans.version == 0) || says_close (map (header_bytes front) (take spans.headers headers)))
     → head.bare ≡ ((spans.version == 1) && is_none (values (codes "connection") (map (header_bytes front) (take spans.headers headers)))) → IsHeadAt front head h

@@ -10,6 +10,7 @@ use Rattle.al_http.specs.declared.asking.Request.{Request}
 use Rattle.al_http.specs.declared.asking.Request.TheVariants.{Post, Account}
 use Rattle.al_http.specs.Asks.{FitsBody}
 use Rattle.al_http.specs.Fields.{fields_of, size_of, is_same_text, ends_after}
+use Rattle.al_http.specs.Limits.{most_body, most_head}
 use Rattle.al_http.specs.Requests.{Message, IsRequest, IsBuilt, spell, IsUnfinished, IsPartOfHead, IsBadHead, NeverHasBuilt}
 use Rattle.al_http.specs.Heads.{IsHeadAt}
 
@@ -24,7 +25,7 @@ unbuilt_never_built buf head h x not = λ more k behind reads built.
     not (subst IsBuilt same.0 built)
 
 -- no head yet: `HeadRead::Partial`
-pub partial_unfinished : (buf : List ℕ) → length buf ≤ 16384 → HasNoRequest buf → MayBecomeRequest buf → IsUnfinished buf
+pub partial_unfinished : (buf : List ℕ) → length buf ≤ most_head → HasNoRequest buf → MayBecomeRequest buf → IsUnfinished buf
 partial_unfinished buf short none may = inr (record { short = short; none = none; may = by_case may })
   where
     some : (h : RequestHead) (more : List ℕ) → ReadsRequest (buf ++ more) h [] → 0 < length more
@@ -35,8 +36,8 @@ partial_unfinished buf short none may = inr (record { short = short; none = none
     by_case (inl (more, h, reads)) = inl (more, h, some h more reads, reads.0, reads.1 ∙ append-nil (print_request h))
     by_case (inr target) = inr target
 
--- a body that fits has at most 5,242,880 bytes
-pub body_most : (request : Request) (size : ℕ) → FitsBody request size → size ≤ 5242880
+-- a body that fits is within the limit
+pub body_most : (request : Request) (size : ℕ) → FitsBody request size → size ≤ most_body
 body_most Post size fits = fits
 body_most (Account address round) size fits = omega (arith, fits)
 

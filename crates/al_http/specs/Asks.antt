@@ -1,7 +1,8 @@
 -- What a head asks, by its method and target.
-use Rattle.std.specs.Prelude.{ℕ, ◌≡◌, ◌≤◌, ◌^◌, List, [], ◌++◌, Option, Some, None, codes}
+use Rattle.std.specs.Prelude.{ℕ, ◌≡◌, ◌≤◌, List, [], ◌++◌, Option, Some, None, codes}
 use Rattle.std.specs.Fmt.{decimal}
 use Rattle.al_digest.specs.Texts.{AreBytes, address_text_of}
+use Rattle.al_http.specs.Limits.{most_body, most_round}
 use Rattle.al_http.specs.declared.asking.Request.{Request}
 use Rattle.al_http.specs.declared.asking.Request.TheVariants.{Post, Account}
 
@@ -12,7 +13,7 @@ round_text (Some round) = codes "?round=" ++ decimal round
 
 abbrev pub IsRound : Option ℕ → Type 0
 IsRound None = Unit {0}
-IsRound (Some round) = round ≤ 2 ^ 62
+IsRound (Some round) = round ≤ most_round
 
 -- this method and target ask for this
 abbrev pub Asks : List ℕ → List ℕ → Request → Type 0
@@ -22,7 +23,7 @@ Asks method target (Account address round) =
 
 -- the body that goes with it has so many bytes
 abbrev pub FitsBody : Request → ℕ → Type 0
-FitsBody Post size = size ≤ 5242880
+FitsBody Post size = size ≤ most_body
 FitsBody (Account address round) size = size ≡ 0
 
 -- what is read of a method and target
@@ -37,5 +38,5 @@ ReadsRound query None = (round : Option ℕ) → IsRound round → query ≡ rou
 
 -- what is read of a decimal
 abbrev pub ReadsNumber : List ℕ → Option ℕ → Type 0
-ReadsNumber text (Some n) = (n ≤ 2 ^ 62) × (text ≡ decimal n)
-ReadsNumber text None = (n : ℕ) → n ≤ 2 ^ 62 → text ≡ decimal n → ⊥
+ReadsNumber text (Some n) = (n ≤ most_round) × (text ≡ decimal n)
+ReadsNumber text None = (n : ℕ) → n ≤ most_round → text ≡ decimal n → ⊥

@@ -6,6 +6,7 @@ use Rattle.al_http.specs.declared.head.HeadRead.{HeadRead}
 use Rattle.al_http.specs.declared.head.HeadRead.TheVariants.{Partial, Bad, Got}
 use Rattle.al_http.specs.declared.asking.Asked.{Asked}
 use Rattle.al_http.specs.Fields.{fields_of, size_of, ends_after, is_bare}
+use Rattle.al_http.specs.Limits.{most_head}
 use Rattle.al_http.specs.Requests.{IsWithinLimits, IsBadHead, IsBuilt, AsksFor}
 
 -- what was read of the head h
@@ -26,7 +27,7 @@ pub record IsHeadAt (buf : List ℕ) (head : Head) (h : RequestHead) : Type 0 wh
 -- what the bytes so far are
 abbrev pub IsRead : List ℕ → HeadRead → Type 0
 IsRead buf (Got head) = (h : RequestHead) × IsHeadAt buf head h
-IsRead buf Partial = (length buf ≤ 16384) × HasNoRequest buf × MayBecomeRequest buf
+IsRead buf Partial = (length buf ≤ most_head) × HasNoRequest buf × MayBecomeRequest buf
 IsRead buf Bad = IsBadHead buf
 
 -- what a head within the limits asks, or that it is not built

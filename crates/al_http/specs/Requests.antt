@@ -5,13 +5,14 @@ use Rattle.httparse.specs.Grammar.{RequestHead, IsRequestHead, ReadsRequest, pri
 use Rattle.httparse.specs.Spans.{RequestExceeds}
 use Rattle.al_http.specs.declared.head.BodySize.TheVariants.{Length}
 use Rattle.al_http.specs.declared.asking.Request.{Request}
+use Rattle.al_http.specs.Limits.{most_head, most_fields}
 use Rattle.al_http.specs.Asks.{Asks, FitsBody}
 use Rattle.al_http.specs.Fields.{fields_of, values, size_of}
 
--- a head of at most 16,384 bytes and 64 fields
+-- a head within the limits of bytes and fields
 pub record IsWithinLimits (h : RequestHead) : Type 0 where
-  pub bytes : length (print_request h) ≤ 16384
-  pub fields : length h.fields ≤ 64
+  pub bytes : length (print_request h) ≤ most_head
+  pub fields : length h.fields ≤ most_fields
 
 -- what a head asks for, and the length of the body that it announces
 abbrev pub AsksFor : RequestHead → Request → ℕ → Type 0
@@ -51,9 +52,9 @@ IsPartOfRequest rest = (more : List ℕ) × (m : Message) × (0 < length more) �
 abbrev pub IsPartOfHead : List ℕ → Type 0
 IsPartOfHead rest = (more : List ℕ) × (h : RequestHead) × (0 < length more) × IsRequestHead h × (rest ++ more ≡ print_request h)
 
--- a head that is not whole and does not pass 16,384 bytes: a front of a head, or the bytes end inside a target
+-- a head that is not whole and does not pass the limit of bytes: a front of a head, or the bytes end inside a target
 pub record IsOpenHead (rest : List ℕ) : Type 0 where
-  pub short : length rest ≤ 16384
+  pub short : length rest ≤ most_head
   pub none : HasNoRequest rest
   pub may : IsPartOfHead rest ⊎ EndsInTarget rest
 
@@ -69,9 +70,9 @@ NeverHasBuilt rest = (more : List ℕ) (h : RequestHead) (behind : List ℕ) →
 abbrev pub NeverHasHead : List ℕ → Type 0
 NeverHasHead rest = (more : List ℕ) (h : RequestHead) (behind : List ℕ) → ReadsRequest (rest ++ more) h behind → IsWithinLimits h → ⊥
 
--- a bad head: the bytes are refused, or pass 64 fields or 16,384 bytes
+-- a bad head: the bytes are refused, or pass the limit of fields or of bytes
 pub record IsBadHead (rest : List ℕ) : Type 0 where
-  pub cause : NeverHasRequest rest ⊎ RequestExceeds 64 rest ⊎ (16384 < length rest)
+  pub cause : NeverHasRequest rest ⊎ RequestExceeds most_fields rest ⊎ (most_head < length rest)
   pub never : NeverHasHead rest
 
 -- behind the requests stands no request

@@ -1,6 +1,7 @@
 // The head of a request.
 ghost use Rattle.std.specs.Prelude.{◌≡◌, ◌≤◌, ◌<◌, ℕ, List, length, drop, take, IfOk};
 ghost use Rattle.al_http.specs.Heads.{IsRead};
+ghost use Rattle.al_http.specs.Limits.{most_head};
 
 use crate::fields::{closes, is_bare, size_of};
 use al_base::Bytes;
@@ -11,10 +12,13 @@ use httparse::spans::{EMPTY_HEADER_SPAN, parse_request};
 use std::alloc::{AllocError, Global};
 
 /// The most bytes of a head.
-pub const MOST_HEAD: usize = 16384;
+pub const MOST_HEAD: usize = 16_384;
 
-/// The most bytes of a body.
-pub const MOST_BODY: u64 = 5242880;
+/// The most fields of a head.
+pub const MOST_FIELDS: usize = 64;
+
+/// The most bytes of a body, which are those of a block.
+pub const MOST_BODY: u64 = 5_242_880;
 
 /// How long a body is, by the fields of its head.
 #[derive(Clone, Copy, Debug, PartialEq, Eq)]
@@ -72,10 +76,10 @@ pub fn read_head(alloc: Global, buf: &[u8]) -> Result<HeadRead, AllocError>
 
 // The same of bytes that are not above the limit.
 fn read_front(alloc: Global, front: &[u8]) -> Result<HeadRead, AllocError>
-    requires { length front.now ≤ 16384 }
+    requires { length front.now ≤ most_head }
     ensures { IfOk result (λ read. IsRead front.now read) }
 {
-    let mut fields = [EMPTY_HEADER_SPAN; 64];
+    let mut fields = [EMPTY_HEADER_SPAN; MOST_FIELDS];
     match parse_request(front, &mut fields) {
         Ok(Status::Complete(spans)) => match Method::from_bytes(alloc, spans.method.of(front)) {
             Ok(method) => {

@@ -14,7 +14,7 @@ mod texts;
 pub use answer::{Answer, ErrorName, More};
 pub use asking::{Asked, Request};
 pub use fields::Named;
-pub use head::{BodySize, Head, HeadRead, MOST_BODY, MOST_HEAD, read_head};
+pub use head::{BodySize, Head, HeadRead, MOST_BODY, MOST_FIELDS, MOST_HEAD, read_head};
 pub use laws::{
     cuts_agree, nothing_left, one_cut, one_meaning, one_request, unfinished_is_not_refused,
 };

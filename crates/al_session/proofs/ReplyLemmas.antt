@@ -1,5 +1,5 @@
 -- A request has at most one reply.
-use Rattle.std.proofs.Common.{refl, ◌≡◌, ◌<◌, ◌^◌, ◌⊎◌, inl, inr, ℕ, suc, List, ◌∷◌, ◌++◌, length, drop, Option, Some, Result, Ok, Err, sym, ap, subst, ◌∙◌, arith, length-append}
+use Rattle.std.proofs.Common.{refl, ◌≡◌, ◌<◌, ◌^◌, ◌⊎◌, inl, inr, ℕ, suc, List, ◌∷◌, length, drop, Some, Result, Ok, Err, sym, ap, subst, ◌∙◌, arith, length-append}
 use Rattle.std.proofs.lemmas.List.{drop_at}
 use Rattle.al_msgpack.specs.Grammar.{AreBytes}
 use Rattle.al_msgpack.proofs.Exact.{Fit}
@@ -10,7 +10,7 @@ use Rattle.al_block.specs.declared.decoding.BlockFault.TheVariants as faults
 use Rattle.al_block.specs.Block.{IsBlock, BlockMeans}
 use Rattle.al_block.specs.Hashes.{header_hash_of}
 use Rattle.al_block.proofs.Meaning.{once, only_from}
-use Rattle.al_eval.specs.State.{State, replay}
+use Rattle.al_eval.specs.State.{State}
 use Rattle.al_eval.specs.Steps.{Refusal}
 use Rattle.al_http.specs.declared.answer.Answer.{Answer}
 use Rattle.al_http.specs.declared.asking.Request.{Request}

@@ -1,5 +1,5 @@
 -- A run of the program that comes to serving.
-use Rattle.std.proofs.Common.{◌≤◌, length, ◌≡◌, ℕ, List, sym, subst, inr, Option, Some, None, Ok, Err}
+use Rattle.std.proofs.Common.{◌≤◌, length, ◌≡◌, ◌≢◌, ℕ, List, sym, subst, inr, Option, Some, None, Ok, Err}
 use Rattle.al_base.specs.Folders.{FileMap, Reads}
 use Rattle.al_base.specs.Causes.{Rose}
 use Rattle.al_session.specs.declared.link.Ended.{Ended}
@@ -22,9 +22,10 @@ read_holds None now name limit found x = tt
 read_holds (Some before) None name limit found x = absurd x
 read_holds (Some before) (Some now) name limit found x = sym x.1
 
-pub served_runs : (words : List (List ℕ)) (name file : List ℕ) (before after : Outside) (n : ℕ) (s t : States) (e : Ended) → Some name ≡ session_file words → Holds before.files name (Some file) → length file ≤ most_genesis → Opens file (Ok s) → Serves (held s) (held t) before.left after.left before.written after.written e → IsStates t → (e ≡ ended.SourceFault → Rose before.source_faults after.source_faults) → (e ≡ ended.SinkFault → Rose before.sink_faults after.sink_faults) → n ≡ status_of e
+pub served_runs : (words : List (List ℕ)) (name file : List ℕ) (before after : Outside) (n : ℕ) (s t : States) (e : Ended) → Some name ≡ session_file words → Holds before.files name (Some file) → length file ≤ most_genesis → Opens file (Ok s) → Serves (held s) (held t) before.left after.left before.written after.written e → IsStates t → (e ≡ ended.SourceFault → Rose before.source_faults after.source_faults) → (e ≡ ended.SinkFault → Rose before.sink_faults after.sink_faults)
+    → (e ≢ ended.SourceFault → after.source_faults ≡ before.source_faults) × (e ≢ ended.SinkFault → after.sink_faults ≡ before.sink_faults) → n ≡ status_of e
     → Runs words before after n
-served_runs words name file before after n s t e named holds short opened serves kept source sink is =
+served_runs words name file before after n s t e named holds short opened serves kept source sink stay is =
     let x : IsServed name before after n = record {
       file = file;
       holds = holds;
@@ -39,6 +40,8 @@ served_runs words name file before after n s t e named holds short opened serves
       status = is;
       source_fault = source;
       sink_fault = sink;
+      source_kept = stay.0;
+      sink_kept = stay.1;
     } in
     subst (λ o. RunsOf o before after n) named (inr (inr (inr x)))
 

@@ -1,25 +1,28 @@
 -- One connection, piece by piece.
-use Rattle.std.proofs.Common.{◌≡◌, ◌≤◌, ◌<◌, ◌⊎◌, inl, inr, ◌+◌, ◌-◌, ℕ, List, [], ◌∷◌, ◌++◌, length, take, drop, map, refl, sym, ap, ◌∙◌, arith, subst, append_assoc, length-append, Option, Some, None, All}
+use Rattle.std.proofs.Common.{◌≢◌, Err, ◌≡◌, ◌≤◌, ◌<◌, ◌⊎◌, inl, inr, ◌+◌, ◌-◌, ℕ, List, [], ◌∷◌, ◌++◌, length, take, drop, map, refl, sym, ap, ◌∙◌, arith, subst, append_assoc, length-append, Option, Some, None, All}
 use Rattle.std.proofs.lemmas.List.{append-nil, take-append-le, take_at, drop_at, map_push, nil_from_length}
 use Rattle.std.proofs.lemmas.List.Concat.{flat_map-append}
 use Rattle.std.proofs.lemmas.List.Elements.{All-push, All-nil}
 use Rattle.std.specs.List.{flat_map}
 use mathlib.Core.List.{IsPrefix}
 use Rattle.httparse.specs.Grammar.{print_request}
-use Rattle.al_base.specs.Causes.{Left, Wrote, IsAtEnd}
+use Rattle.al_base.specs.Causes.{Left, Wrote, IsAtEnd, Rose}
 use Rattle.al_block.specs.declared.block.Block.{Block}
 use Rattle.al_eval.specs.State.{State}
 use Rattle.al_http.specs.Answers.{answer_text, memory_answer, not_built_answer}
 use Rattle.al_http.specs.Requests.{Message, IsRequest, AsksFor, spell, stream_of, IsUnfinished}
 use Rattle.al_http.specs.declared.answer.Answer.{Answer}
 use Rattle.al_http.specs.declared.asking.Request.{Request}
+use Rattle.al_session.specs.declared.inbox.Piece.{Piece}
+use Rattle.al_session.specs.declared.inbox.Stop.{Stop}
+use Rattle.al_session.specs.declared.inbox.Stop.TheVariants as stops
 use Rattle.al_session.specs.declared.link.Ended.{Ended}
 use Rattle.al_session.specs.declared.link.Ended.TheVariants as ended
 use Rattle.al_states.specs.declared.told.Told.{Told}
 use Rattle.al_states.specs.Held.{Held}
 use Rattle.al_states.specs.Replies.{Replies, IsAnswer, Grows, IsAnswered}
-use Rattle.al_session.specs.Taking.{Grown, IsRefusedPiece}
-use Rattle.al_session.specs.Connection.{told_text, IsToldOf, Answers, last_front, GrowsBy, Grow, Serving, Serves, EndsAs, IsWritten}
+use Rattle.al_session.specs.Taking.{Grown, IsRefusedPiece, IsCounted, Nexts}
+use Rattle.al_session.specs.Connection.{most_requests, told_text, IsToldOf, Answers, last_front, GrowsBy, Grow, Serving, Serves, EndsBy, EndsAs, IsWritten}
 use Rattle.al_session.proofs.TakingLemmas.{left_then, left_none}
 
 -- ---- lists of blocks
@@ -264,7 +267,7 @@ no_memory before after a b c w v waiting lost requests told s left =
     let more : Grown waiting (waiting ++ lost) b c = record { got = lost; more = refl; left = left } in
     ends_whole before after a c w v (waiting ++ lost) requests told ended.Memory (took before after a b c w v waiting (waiting ++ lost) requests told s more) (joined_none told) refl
 
-pub spent : (before after : Held) (a b w v : Option (List ℕ)) (waiting : List ℕ) (requests : List Message) (told : List Told) → Serving before after a b w v waiting requests told → length requests ≡ 1000000 → Serves before after a b w v ended.Spent
+pub spent : (before after : Held) (a b w v : Option (List ℕ)) (waiting : List ℕ) (requests : List Message) (told : List Told) → Serving before after a b w v waiting requests told → length requests ≡ most_requests → Serves before after a b w v ended.Spent
 spent before after a b w v waiting requests told s all = ends_whole before after a b w v waiting requests told ended.Spent s (joined_none told) (refl, all)
 
 -- a piece was refused
@@ -276,6 +279,64 @@ pub refusal_failed : (before after : Held) (a b w v u : Option (List ℕ)) (wait
     → Serves before after a b w u ended.SinkFault
 refusal_failed before after a b w v u waiting text part requests told s piece is front put =
     ends_behind before after a b w v u waiting text part requests told ended.SinkFault s (map told_text told, text, part, refl, front, ap (λ zs. zs ++ part) (sym (joined told))) (inr (piece, ap (λ zs. zs ∷ []) is)) put
+
+ended_as : (before after : Held) (a b w v u : Option (List ℕ)) (end this : Ended) → u ≡ v → this ≡ end → Serves before after a b w v end → Serves before after a b w u this
+ended_as before after a b w v u end this same is x = subst (λ o. Serves before after a b w o this) (sym same) (subst (Serves before after a b w v) (sym is) x)
+
+-- taking stopped
+stopped : (before after : Held) (a b c w v u : Option (List ℕ)) (waiting new : List ℕ) (requests : List Message) (told : List Told) (stop : Stop) (taken : ℕ) (end : Ended) → Serving before after a b w v waiting requests told → Nexts waiting new b c (Err stop)
+    → taken ≡ length (flat_map spell requests) + length new → EndsBy stop taken (length new) v u end → Serves before after a c w u end
+stopped before after a b c w v u waiting new requests told stops.End taken end s x is (same, inl (none, e)) =
+    ended_as before after a c w v u ended.Finished end same e (finished before after a c w v new requests told (took before after a b c w v waiting new requests told s x.0) none x.2)
+stopped before after a b c w v u waiting new requests told stops.End taken end s x is (same, inr (some, e)) =
+    ended_as before after a c w v u (ended.CutShort taken) end same e (cut_short before after a c w v new requests told taken (took before after a b c w v waiting new requests told s x.0) some x.1 x.2 is)
+stopped before after a b c w v u waiting new requests told stops.Fault taken end s x is (same, e) =
+    ended_as before after a c w v u ended.SourceFault end same e (source_failed before after a c w v new requests told (took before after a b c w v waiting new requests told s x.0) x.1)
+stopped before after a b c w v u waiting new requests told stops.Refused taken end s x is (inl (e, put)) =
+    ended_as before after a c w u u ended.Unreadable end refl e (unreadable before after a c w v u new (answer_text not_built_answer) requests told (took before after a b c w v waiting new requests told s x.0) x.1 refl put)
+stopped before after a b c w v u waiting new requests told stops.Refused taken end s x is (inr (e, (part, front, put))) =
+    ended_as before after a c w u u ended.SinkFault end refl e (refusal_failed before after a c w v u new (answer_text not_built_answer) part requests told (took before after a b c w v waiting new requests told s x.0) x.1 refl front put)
+stopped before after a b c w v u waiting new requests told stops.Memory taken end s x is (same, e) =
+    ended_as before after a c w v u ended.Memory end same e (no_memory before after a b c w v waiting x.0 requests told s x.1)
+
+-- the same, by a count of the bytes that wait
+pub stopped_at : (before after : Held) (a b c w v u : Option (List ℕ)) (waiting new : List ℕ) (requests : List Message) (told : List Told) (stop : Stop) (taken count : ℕ) (end : Ended) → Serving before after a b w v waiting requests told → Nexts waiting new b c (Err stop) → count ≡ length new
+    → taken ≡ length (flat_map spell requests) + count → EndsBy stop taken count v u end → Serves before after a c w u end
+stopped_at before after a b c w v u waiting new requests told stop taken count end s x long is by =
+    stopped before after a b c w v u waiting new requests told stop taken end s x (is ∙ ap (λ k. length (flat_map spell requests) + k) long) (subst (λ k. EndsBy stop taken k v u end) long by)
+
+-- ---- counts of faults
+
+-- where the connection ended otherwise
+other_end : (end this : Ended) (f g : ℕ) → this ≡ end → (end ≡ ended.SourceFault → ⊥) → g ≡ f → (this ≡ ended.SourceFault → Rose f g) × (this ≢ ended.SourceFault → g ≡ f)
+other_end end this f g is not same = (λ e. absurd (not (sym is ∙ e)), λ n. same)
+
+finished_is_none : ended.Finished ≡ ended.SourceFault → ⊥
+finished_is_none e = absurd cc
+
+cut_is_none : (at : ℕ) → ended.CutShort at ≡ ended.SourceFault → ⊥
+cut_is_none at e = absurd cc
+
+unreadable_is_none : ended.Unreadable ≡ ended.SourceFault → ⊥
+unreadable_is_none e = absurd cc
+
+sink_is_none : ended.SinkFault ≡ ended.SourceFault → ⊥
+sink_is_none e = absurd cc
+
+memory_is_none : ended.Memory ≡ ended.SourceFault → ⊥
+memory_is_none e = absurd cc
+
+stop_counts : (stop : Stop) (taken waiting : ℕ) (v u : Option (List ℕ)) (end : Ended) (f g : ℕ) → EndsBy stop taken waiting v u end → IsCounted {A = Piece} f g (Err stop) → (end ≡ ended.SourceFault → Rose f g) × (end ≢ ended.SourceFault → g ≡ f)
+stop_counts stops.End taken waiting v u end f g (same, inl (none, e)) x = other_end ended.Finished end f g e finished_is_none x
+stop_counts stops.End taken waiting v u end f g (same, inr (some, e)) x = other_end (ended.CutShort taken) end f g e (cut_is_none taken) x
+stop_counts stops.Fault taken waiting v u end f g (same, e) x = (λ is. x, λ n. absurd (n e))
+stop_counts stops.Refused taken waiting v u end f g (inl (e, put)) x = other_end ended.Unreadable end f g e unreadable_is_none x
+stop_counts stops.Refused taken waiting v u end f g (inr (e, (part, front, put))) x = other_end ended.SinkFault end f g e sink_is_none x
+stop_counts stops.Memory taken waiting v u end f g (same, e) x = other_end ended.Memory end f g e memory_is_none x
+
+-- the source's count, which had stayed until taking stopped
+pub stopped_counts : (stop : Stop) (taken waiting : ℕ) (v u : Option (List ℕ)) (end : Ended) (e f g : ℕ) → f ≡ e → EndsBy stop taken waiting v u end → IsCounted {A = Piece} f g (Err stop) → (end ≡ ended.SourceFault → Rose e g) × (end ≢ ended.SourceFault → g ≡ e)
+stopped_counts stop taken waiting v u end e f g same by x = subst (λ k. (end ≡ ended.SourceFault → Rose k g) × (end ≢ ended.SourceFault → g ≡ k)) same (stop_counts stop taken waiting v u end f g by x)
 
 -- an answer could not be written
 pub answer_failed : (before after : Held) (a b w v u : Option (List ℕ)) (rest : List ℕ) (requests : List Message) (told : List Told) (m : Message) (t : Told) (part : List ℕ) → Replied before after a b rest (requests ++ m ∷ []) (told ++ t ∷ []) → Wrote w v (flat_map told_text told)

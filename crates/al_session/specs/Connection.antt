@@ -11,6 +11,8 @@ use Rattle.al_http.specs.Asks.{Asks}
 use Rattle.al_http.specs.Requests.{Message, IsRequest, stream_of, IsUnfinished}
 use Rattle.al_http.specs.declared.answer.Answer.{Answer}
 use Rattle.al_http.specs.declared.asking.Request.{Request}
+use Rattle.al_session.specs.declared.inbox.Stop.{Stop}
+use Rattle.al_session.specs.declared.inbox.Stop.TheVariants as stops
 use Rattle.al_session.specs.declared.link.Ended.{Ended}
 use Rattle.al_session.specs.declared.link.Ended.TheVariants as ended
 use Rattle.al_states.specs.declared.told.Told.{Told}
@@ -66,9 +68,22 @@ pub record Serving (before after : Held) (left_before left_now written_before wr
 
 -- ---- its end
 
+-- the most requests that one connection asks
+abbrev pub most_requests : ℕ
+most_requests = 1000000
+
 -- a piece that is refused, and the text that refuses it
 abbrev pub IsRefusal : List ℕ → List (List ℕ) → Type 0
 IsRefusal rest behind = IsRefusedPiece rest × (behind ≡ answer_text not_built_answer ∷ [])
+
+-- how it ends where taking stopped: by the bytes taken and how many of them wait, and what is written then
+abbrev pub EndsBy : Stop → ℕ → ℕ → Option (List ℕ) → Option (List ℕ) → Ended → Type 0
+EndsBy stops.End taken waiting before now end = (now ≡ before) × (((waiting ≡ 0) × (end ≡ ended.Finished)) ⊎ ((0 < waiting) × (end ≡ ended.CutShort taken)))
+EndsBy stops.Fault taken waiting before now end = (now ≡ before) × (end ≡ ended.SourceFault)
+EndsBy stops.Refused taken waiting before now end =
+    ((end ≡ ended.Unreadable) × Wrote before now (answer_text not_built_answer))
+    ⊎ ((end ≡ ended.SinkFault) × ((part : List ℕ) × IsPrefix part (answer_text not_built_answer) × Wrote before now part))
+EndsBy stops.Memory taken waiting before now end = (now ≡ before) × (end ≡ ended.Memory)
 
 -- why it ended, by the rest of the taken bytes, and which text stands behind the answers
 abbrev pub EndsAs : Ended → Option (List ℕ) → List ℕ → List Message → List ℕ → List (List ℕ) → Type 0
@@ -77,7 +92,7 @@ EndsAs (ended.CutShort at) left_now taken requests rest behind = (behind ≡ [])
 EndsAs ended.Unreadable left_now taken requests rest behind = IsRefusal rest behind
 EndsAs ended.SourceFault left_now taken requests rest behind = (behind ≡ []) × IsUnfinished rest
 EndsAs ended.SinkFault left_now taken requests rest behind = (behind ≡ []) ⊎ IsRefusal rest behind
-EndsAs ended.Spent left_now taken requests rest behind = (behind ≡ []) × (length requests ≡ 1000000)
+EndsAs ended.Spent left_now taken requests rest behind = (behind ≡ []) × (length requests ≡ most_requests)
 EndsAs ended.Memory left_now taken requests rest behind = behind ≡ []
 
 -- whole texts, and a front of the last

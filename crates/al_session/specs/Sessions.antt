@@ -1,9 +1,10 @@
 -- What a run of the program is: its words, its one line of text, and its status.
-use Rattle.std.specs.Prelude.{◌≤◌, ◌<◌, ◌+◌, ⊤, ◌≡◌, ◌⊎◌, ◌&&◌, ℕ, Bool, false, not, List, [], ◌∷◌, ◌++◌, length, codes, nat_eq, if◌then◌else◌, Option, Some, None, IsSomeAnd}
+use Rattle.std.specs.Prelude.{◌≢◌, ◌≤◌, ◌<◌, ◌+◌, ⊤, ◌≡◌, ◌⊎◌, ◌&&◌, ℕ, Bool, false, not, List, [], ◌∷◌, ◌++◌, length, codes, nat_eq, if◌then◌else◌, Option, Some, None, IsSomeAnd}
 use Rattle.std.specs.Str.{bytes_eq}
 use mathlib.Core.List.{IsPrefix}
 use Rattle.al_base.specs.Causes.{Left, Wrote, Rose}
 use Rattle.al_base.specs.Folders.{FileMap}
+use Rattle.al_block.specs.Block.{most_bytes}
 use Rattle.al_genesis.specs.declared.genesis.Genesis.{Genesis}
 use Rattle.al_genesis.specs.Genesis.{IsGenesis}
 use Rattle.al_eval.specs.Start.{start}
@@ -49,9 +50,9 @@ status_of ended.SinkFault = 5
 status_of ended.Spent = 5
 status_of ended.Memory = 7
 
--- one line was written, or a front of it where the sink failed
+-- one line was written, or a front of it where the sink failed, whose count of faults rose then and stayed else
 abbrev pub Says : List ℕ → Option (List ℕ) → Option (List ℕ) → ℕ → ℕ → Type 0
-Says line before now f g = Wrote before now line ⊎ ((part : List ℕ) × IsPrefix part line × Wrote before now part × Rose f g)
+Says line before now f g = (Wrote before now line × (g ≡ f)) ⊎ ((part : List ℕ) × IsPrefix part line × Wrote before now part × Rose f g)
 
 -- the number that is shown is a digit
 abbrev pub IsDigit : OpenFault → Type 0
@@ -61,7 +62,7 @@ IsDigit faults.Memory = ⊤
 -- what a file that opens nothing is answered: one line and status 3, or nothing and status 7
 abbrev pub Refuses : OpenFault → Option (List ℕ) → Option (List ℕ) → ℕ → ℕ → ℕ → Type 0
 Refuses (faults.Genesis n) before now f g status = (status ≡ 3) × Says (genesis_line n) before now f g
-Refuses faults.Memory before now f g status = (status ≡ 7) × Wrote before now []
+Refuses faults.Memory before now f g status = (status ≡ 7) × Wrote before now [] × (g ≡ f)
 
 -- no file is changed, where the files are told
 abbrev pub KeepsFiles : Option FileMap → Option FileMap → Type 0
@@ -81,16 +82,19 @@ pub record Outside : Type 0 where
 -- nothing was taken, and one line was written
 pub record SaysAlone (line : List ℕ) (before after : Outside) : Type 0 where
   pub taken : Left before.left after.left []
+  pub source_kept : after.source_faults ≡ before.source_faults
   pub says : Says line before.written after.written before.sink_faults after.sink_faults
 
 -- nothing was taken or written
 pub record IsSilent (before after : Outside) : Type 0 where
   pub taken : Left before.left after.left []
   pub written : Wrote before.written after.written []
+  pub source_kept : after.source_faults ≡ before.source_faults
+  pub sink_kept : after.sink_faults ≡ before.sink_faults
 
--- the most bytes of a genesis file
+-- the most bytes of a genesis file, which are those of a block
 abbrev pub most_genesis : ℕ
-most_genesis = 5242880
+most_genesis = most_bytes
 
 -- this is what the name holds, where the files are told
 abbrev pub Holds : Option FileMap → List ℕ → Option (List ℕ) → Type 0
@@ -120,7 +124,8 @@ pub record IsShort (before after : Outside) (n : ℕ) : Type 0 where
   pub status : n ≡ 7
   pub silent : IsSilent before after
 
--- the connection was served from the state of the file's genesis, and the status says how it ended
+-- the connection was served from the state of the file's genesis, and the status says how it ended; a count of faults of the source
+-- or the sink rises only where that fault ended it
 pub record IsServed (name : List ℕ) (before after : Outside) (n : ℕ) : Type 0 where
   pub file : List ℕ
   pub holds : Holds before.files name (Some file)
@@ -135,6 +140,8 @@ pub record IsServed (name : List ℕ) (before after : Outside) (n : ℕ) : Type 
   pub status : n ≡ status_of end
   pub source_fault : end ≡ ended.SourceFault → Rose before.source_faults after.source_faults
   pub sink_fault : end ≡ ended.SinkFault → Rose before.sink_faults after.sink_faults
+  pub source_kept : end ≢ ended.SourceFault → after.source_faults ≡ before.source_faults
+  pub sink_kept : end ≢ ended.SinkFault → after.sink_faults ≡ before.sink_faults
 
 -- a run of these words: status 2 exactly where they name no file of a session
 abbrev pub RunsOf : Option (List ℕ) → Outside → Outside → ℕ → Type 0

@@ -7,13 +7,14 @@ ghost use Rattle.al_session.specs.Sessions.{IsDigit, KeepsFiles, Refuses, Runs, 
 use crate::link::{Caller, Ended, serve_link};
 use crate::words::Words;
 use al_base::{Folder, FolderRefusal, Sink, Source};
+use al_http::MOST_BODY;
 use al_states::{OpenFault, States};
 use std::alloc::{AllocError, Global};
 use std::process::ExitCode;
 use std::{env, io};
 
-/// The most bytes of a genesis file.
-const MOST_GENESIS: usize = 5_242_880;
+/// The most bytes of a genesis file, which are those of a block.
+const MOST_GENESIS: usize = MOST_BODY as usize;
 
 const USAGE: &[u8] = b"usage: al_node [--db FILE] COMMAND\n";
 

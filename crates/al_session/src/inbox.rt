@@ -1,43 +1,59 @@
 //! The bytes of a connection that wait to be used.
 ghost use Rattle.std.specs.Prelude.{◌≡◌, ◌≤◌, ◌<◌, ◌+◌, ℕ, List, [], ◌++◌, length, drop, codes};
-ghost use Rattle.al_session.specs.Taking.{Fills, HeadNexts, Waits, Nexts};
+ghost use Rattle.al_http.specs.Limits.{most_message};
+ghost use Rattle.al_session.specs.Taking.{Fills, HeadNexts, IsCounted, Nexts, Waits};
 
-use al_base::Source;
+use al_base::{Failed, Source};
 use al_http::{Head, HeadRead, Request, read_head};
-use std::alloc::Global;
+use std::alloc::{AllocError, Global};
 use std::marker::Model;
 
-/// What one take gave.
-#[derive(Clone, Copy, Debug, PartialEq, Eq)]
-pub enum Filled {
-    More,
-    End,
-    Fault,
-    Memory,
-}
+/// The most bytes that one take gives.
+const MOST_TAKEN: usize = 4096;
 
-// A whole head at the front, or why there is none.
-#[derive(Debug, Drop)]
-pub enum HeadNext {
-    Got(Head),
-    Bad,
-    End,
-    Fault,
-    Memory,
-}
-
-/// The next piece of a connection.
+/// Why taking from a source stops.
 #[derive(Clone, Copy, Debug, PartialEq, Eq)]
-pub enum Next {
-    /// A request: what it asks, and how many bytes its head and its body have.
-    Got(Request, usize, usize),
-    /// A head that is malformed or not built.
-    Refused,
+pub enum Stop {
     /// The source is at its end.
     End,
     /// The source failed.
     Fault,
+    /// A head that is malformed or not built waits.
+    Refused,
+    /// There was no memory.
     Memory,
+}
+
+impl From<Failed> for Stop {
+    ghost use Rattle.std.specs.Prelude.{◌≡◌};
+    ghost use Rattle.al_session.specs.declared.inbox.Stop.TheVariants as stops;
+
+    ghost from_gives = { λ _ stop. stop ≡ stops.Fault };
+
+    fn from(_: Failed) -> Stop {
+        Stop::Fault
+    }
+}
+
+impl From<AllocError> for Stop {
+    ghost use Rattle.std.specs.Prelude.{◌≡◌};
+    ghost use Rattle.al_session.specs.declared.inbox.Stop.TheVariants as stops;
+
+    ghost from_gives = { λ _ stop. stop ≡ stops.Memory };
+
+    fn from(_: AllocError) -> Stop {
+        Stop::Memory
+    }
+}
+
+/// A request whose bytes wait.
+#[derive(Clone, Copy, Debug, PartialEq, Eq)]
+pub struct Piece {
+    pub request: Request,
+    /// The bytes of its head.
+    pub used: usize,
+    /// The bytes of its body.
+    pub size: usize,
 }
 
 /// The bytes that left the source and wait to be used.
@@ -52,12 +68,13 @@ pub struct Inbox {
 
 impl Model for Inbox {
     ghost use Rattle.std.specs.Prelude.{List, ℕ, drop, length, ◌≤◌};
+    ghost use Rattle.al_session.specs.Room.{most_waiting};
 
     ghost Value = { List ℕ };
 
     ghost view = { λ b. drop b.start b.bytes.items };
 
-    ghost invariant = { λ b. (b.start ≤ length b.bytes.items) × (length b.bytes.items ≤ 5263360) };
+    ghost invariant = { λ b. (b.start ≤ length b.bytes.items) × (length b.bytes.items ≤ most_waiting) };
 }
 
 impl Inbox {
@@ -92,82 +109,70 @@ impl Inbox {
     }
 
     /// Takes once from the source, into the room of the bytes that went.
-    pub fn fill<S: Source>(&mut self, source: &mut S) -> Filled
-        requires { length self.old ≤ 5259264 }
-        ensures bytes { Fills self.old self.new (S.left source.old) (S.left source.new) (S.faults source.old) (S.faults source.new) result }
+    pub fn fill<S: Source>(&mut self, source: &mut S) -> Result<(), Stop>
+        requires { length self.old ≤ most_message }
+        ensures bytes { Fills self.old self.new (S.left source.old) (S.left source.new) result }
         ensures later { S.faults source.old ≤ S.faults source.new }
+        ensures kept { IsCounted (S.faults source.old) (S.faults source.new) result }
     {
         self.bytes.drain(..self.start);
         self.start = 0;
-        let mut piece = [0u8; 4096];
-        let Ok(n) = source.take(&mut piece) else {
-            return Filled::Fault;
-        };
+        let mut piece = [0u8; MOST_TAKEN];
+        let n = source.take(&mut piece)?;
         if n == 0 {
-            return Filled::End;
+            return Err(Stop::End);
         }
-        match self.bytes.extend_from_slice(&piece[..n]) {
-            Ok(()) => Filled::More,
-            Err(_) => Filled::Memory,
-        }
+        self.bytes.extend_from_slice(&piece[..n])?;
+        Ok(())
     }
 
     // Takes until the head at the front is whole: it is read anew after each take, and has at most 16,384 bytes.
-    fn next_head<S: Source>(&mut self, alloc: Global, source: &mut S) -> HeadNext
-        ensures bytes { HeadNexts self.old self.new (S.left source.old) (S.left source.new) (S.faults source.old) (S.faults source.new) result }
+    fn next_head<S: Source>(&mut self, alloc: Global, source: &mut S) -> Result<Head, Stop>
+        ensures bytes { HeadNexts self.old self.new (S.left source.old) (S.left source.new) result }
         ensures later { S.faults source.old ≤ S.faults source.new }
+        ensures kept { IsCounted (S.faults source.old) (S.faults source.new) result }
     {
         loop {
-            match read_head(alloc, self.waiting()) {
-                Ok(HeadRead::Got(head)) => return HeadNext::Got(head),
-                Ok(HeadRead::Bad) => return HeadNext::Bad,
-                Ok(HeadRead::Partial) => {}
-                Err(_) => return HeadNext::Memory,
-            }
-            match self.fill(source) {
-                Filled::More => {}
-                Filled::End => return HeadNext::End,
-                Filled::Fault => return HeadNext::Fault,
-                Filled::Memory => return HeadNext::Memory,
+            match read_head(alloc, self.waiting())? {
+                HeadRead::Got(head) => return Ok(head),
+                HeadRead::Bad => return Err(Stop::Refused),
+                HeadRead::Partial => self.fill(source)?,
             }
         }
     }
 
     // Takes until so many bytes wait.
-    fn wait_for<S: Source>(&mut self, source: &mut S, need: usize) -> Filled
-        requires { need ≤ 5259264 }
-        ensures bytes { Waits self.old self.new (S.left source.old) (S.left source.new) (S.faults source.old) (S.faults source.new) need result }
+    fn wait_for<S: Source>(&mut self, source: &mut S, need: usize) -> Result<(), Stop>
+        requires { need ≤ most_message }
+        ensures bytes { Waits self.old self.new (S.left source.old) (S.left source.new) need result }
         ensures later { S.faults source.old ≤ S.faults source.new }
+        ensures kept { IsCounted (S.faults source.old) (S.faults source.new) result }
     {
         while self.len() < need {
-            match self.fill(source) {
-                Filled::More => {}
-                other => return other,
-            }
+            self.fill(source)?;
         }
-        Filled::More
+        Ok(())
     }
 
-    /// Takes until the next request is whole, or is none.
-    pub fn next<S: Source>(&mut self, alloc: Global, source: &mut S) -> Next
-        ensures bytes { Nexts self.old self.new (S.left source.old) (S.left source.new) (S.faults source.old) (S.faults source.new) result }
+    /// Takes until the next request is whole.
+    ///
+    /// # Errors
+    ///
+    /// Why taking stopped before.
+    pub fn next<S: Source>(&mut self, alloc: Global, source: &mut S) -> Result<Piece, Stop>
+        ensures bytes { Nexts self.old self.new (S.left source.old) (S.left source.new) result }
         ensures later { S.faults source.old ≤ S.faults source.new }
+        ensures kept { IsCounted (S.faults source.old) (S.faults source.new) result }
     {
-        let head = match self.next_head(alloc, source) {
-            HeadNext::Got(head) => head,
-            HeadNext::Bad => return Next::Refused,
-            HeadNext::End => return Next::End,
-            HeadNext::Fault => return Next::Fault,
-            HeadNext::Memory => return Next::Memory,
-        };
+        let head = self.next_head(alloc, source)?;
         let Some(asked) = head.asked() else {
-            return Next::Refused;
+            return Err(Stop::Refused);
         };
-        match self.wait_for(source, head.used + asked.size) {
-            Filled::More => Next::Got(asked.request, head.used, asked.size),
-            Filled::End => Next::End,
-            Filled::Fault => Next::Fault,
-            Filled::Memory => Next::Memory,
-        }
+        self.wait_for(source, head.used + asked.size)?;
+        Ok(Piece {
+            request: asked.request,
+            used: head.used,
+            size: asked.size,
+        })
     }
 }

@@ -1,14 +1,14 @@
 //! One connection.
-ghost use Rattle.std.specs.Prelude.{◌≡◌, ◌≤◌, ◌⊎◌, length};
+ghost use Rattle.std.specs.Prelude.{◌≡◌, ◌≢◌, ◌≤◌, ◌⊎◌, length};
 ghost use Rattle.al_base.specs.Causes.{HasCause, Puts, Rose};
 ghost use Rattle.al_http.specs.Answers.{IsSound, answer_text, memory_answer};
 ghost use Rattle.al_http.specs.declared.answer.Answer.{Answer};
-ghost use Rattle.al_session.specs.Connection.{Serves};
+ghost use Rattle.al_session.specs.Connection.{EndsBy, Serves};
 ghost use Rattle.al_states.specs.Held.{KeepsMoney};
 ghost use Rattle.al_states.specs.Keeping.{IsStates, held};
 ghost use Rattle.al_session.specs.declared.link.Ended.TheVariants as ended;
 
-use crate::inbox::{Inbox, Next};
+use crate::inbox::{Inbox, Stop};
 use al_base::{Failed, Sink, Source};
 use al_http::{answer_bytes, memory_text, not_built_text};
 use al_states::{States, Told};
@@ -65,6 +65,30 @@ fn send<T: Sink>(alloc: Global, sink: &mut T, told: &Told) -> Result<(), Failed>
     }
 }
 
+// How a connection ends where taking stopped. So many bytes were taken, of which so many wait.
+fn end<T: Sink>(sink: &mut T, stop: Stop, taken: u64, waiting: usize) -> Ended
+    ensures ends { EndsBy stop taken waiting (T.written sink.old) (T.written sink.new) result }
+    ensures sink_fault { result ≡ ended.SinkFault → Rose (T.faults sink.old) (T.faults sink.new) }
+    ensures kept { result ≢ ended.SinkFault → T.faults sink.new ≡ T.faults sink.old }
+    ensures later { T.faults sink.old ≤ T.faults sink.new }
+{
+    match stop {
+        Stop::End => {
+            if waiting == 0 {
+                Ended::Finished
+            } else {
+                Ended::CutShort { at: taken }
+            }
+        }
+        Stop::Fault => Ended::SourceFault,
+        Stop::Refused => match sink.put(not_built_text()) {
+            Ok(()) => Ended::Unreadable,
+            Err(_) => Ended::SinkFault,
+        },
+        Stop::Memory => Ended::Memory,
+    }
+}
+
 /// Serves one connection: its requests in order, one answer each.
 ///
 /// The requests are those of the bytes taken, however they come in pieces. A posted block that is
@@ -84,33 +108,22 @@ pub fn serve_link<S: Source, T: Sink>(
     ensures seen { caller.new.seen ≡ length (held states.new).blocks }
     ensures source_fault { result ≡ ended.SourceFault → Rose (S.faults source.old) (S.faults source.new) }
     ensures sink_fault { result ≡ ended.SinkFault → Rose (T.faults sink.old) (T.faults sink.new) }
+    ensures kept { (result ≢ ended.SourceFault → S.faults source.new ≡ S.faults source.old) × (result ≢ ended.SinkFault → T.faults sink.new ≡ T.faults sink.old) }
     ensures later { (S.faults source.old ≤ S.faults source.new) × (T.faults sink.old ≤ T.faults sink.new) }
 {
     caller.seen = states.front();
     let mut inbox = Inbox::new(alloc);
     let mut done: u64 = 0;
     for i in 0..MOST_REQUESTS {
-        let (ask, used, size) = match inbox.next(alloc, source) {
-            Next::Got(ask, used, size) => (ask, used, size),
-            Next::Refused => {
-                match sink.put(not_built_text()) {
-                    Ok(()) => return Ended::Unreadable,
-                    Err(_) => return Ended::SinkFault,
-                }
+        let piece = match inbox.next(alloc, source) {
+            Ok(piece) => piece,
+            Err(stop) => {
+                let waiting = inbox.len();
+                return end(sink, stop, done + waiting as u64, waiting);
             }
-            Next::End => {
-                if inbox.len() == 0 {
-                    return Ended::Finished;
-                }
-                return Ended::CutShort {
-                    at: done + inbox.len() as u64,
-                };
-            }
-            Next::Fault => return Ended::SourceFault,
-            Next::Memory => return Ended::Memory,
         };
-        let length = used + size;
-        let told = states.answer(&ask, &inbox.waiting()[used..length]);
+        let length = piece.used + piece.size;
+        let told = states.answer(&piece.request, &inbox.waiting()[piece.used..length]);
         caller.seen = told.front;
         match send(alloc, sink, &told) {
             Ok(()) => {}

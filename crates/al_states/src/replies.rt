@@ -1,15 +1,14 @@
 //! The answers to look-ups and posted bytes, by what came of them.
 ghost use Rattle.std.specs.Prelude.{◌≡◌, Some};
 ghost use Rattle.std.specs.Option.{option_copied};
-ghost use Rattle.al_http.specs.Answers.{memory_answer, nothing};
+ghost use Rattle.al_http.specs.Answers.{nothing};
 ghost use Rattle.al_http.specs.declared.answer.Answer.TheVariants as answers;
 ghost use Rattle.al_http.specs.declared.answer.ErrorName.TheVariants as errors;
 ghost use Rattle.al_states.specs.Accepting.{accept_answer, eval_answer, refusal_answer};
 ghost use Rattle.al_states.specs.Looking.{look_answer, row_answer};
-ghost use Rattle.al_states.specs.Replies.{broken_at, misspelled, no_row, not_built, short, too_new, undecodable, wrong_header};
+ghost use Rattle.al_states.specs.Replies.{broken_at, misspelled, no_row, short, too_new, undecodable, wrong_header};
 
 use crate::{AcceptRefusal, Accepted, LookRefusal, RowAnswer};
-use al_base::{Bytes, Hash};
 use al_block::{BlockFault, Field};
 use al_eval::EvalRefusal;
 use al_http::{Answer, ErrorName, More};
@@ -46,28 +45,17 @@ fn row_answer(front: u64, round: u64, level: u64, row: Option<&Row>) -> Answer
 fn too_new(front: u64) -> Answer
     ensures { result ≡ too_new front }
 {
-    Answer::Refused {
-        status: 404,
-        error: ErrorName::TooNew,
-        more: More {
-            front: Some(front),
-            ..More::nothing()
-        },
-    }
+    Answer::refused(ErrorName::TooNew, More::at_front(front))
 }
 
 fn no_row(front: u64, round: u64) -> Answer
     ensures { result ≡ no_row front round }
 {
-    Answer::Refused {
-        status: 404,
-        error: ErrorName::NoRow,
-        more: More {
-            front: Some(front),
-            round: Some(round),
-            ..More::nothing()
-        },
-    }
+    let more = More {
+        round: Some(round),
+        ..More::at_front(front)
+    };
+    Answer::refused(ErrorName::NoRow, more)
 }
 
 // ---- posted bytes
@@ -91,11 +79,15 @@ fn refusal_answer(refusal: AcceptRefusal) -> Answer
     match refusal {
         AcceptRefusal::Undecodable(fault) => undecodable(fault),
         AcceptRefusal::WrongRound { next, front } => wrong_round(next, front),
-        AcceptRefusal::Fork { kept, front } => other_chain(ErrorName::Fork, front, kept),
-        AcceptRefusal::WrongPrev { kept, front } => other_chain(ErrorName::WrongPrev, front, kept),
+        AcceptRefusal::Fork { kept, front } => {
+            Answer::refused(ErrorName::Fork, More::kept(front, kept))
+        }
+        AcceptRefusal::WrongPrev { kept, front } => {
+            Answer::refused(ErrorName::WrongPrev, More::kept(front, kept))
+        }
         AcceptRefusal::Eval { refusal, front } => eval_answer(front, refusal),
-        AcceptRefusal::NotBuilt => not_built(),
-        AcceptRefusal::Memory => memory(),
+        AcceptRefusal::NotBuilt => Answer::not_built(),
+        AcceptRefusal::Memory => Answer::memory(),
     }
 }
 
@@ -105,22 +97,9 @@ fn undecodable(fault: BlockFault) -> Answer
 {
     match fault {
         BlockFault::Decode(fault) => misspelled(fault),
-        BlockFault::Field { name } => misnamed(ErrorName::Field, name),
-        BlockFault::Range { name } => misnamed(ErrorName::Range, name),
-        BlockFault::Memory => memory(),
-    }
-}
-
-fn misnamed(error: ErrorName, name: Bytes) -> Answer
-    ensures { result ≡ answers.Refused 400 error (record nothing { name = Some name }) }
-{
-    Answer::Refused {
-        status: 400,
-        error,
-        more: More {
-            name: Some(name),
-            ..More::nothing()
-        },
+        BlockFault::Field { name } => Answer::refused(ErrorName::Field, More::named(name)),
+        BlockFault::Range { name } => Answer::refused(ErrorName::Range, More::named(name)),
+        BlockFault::Memory => Answer::memory(),
     }
 }
 
@@ -128,52 +107,27 @@ fn misspelled(fault: DecodeFault) -> Answer
     ensures { result ≡ misspelled fault }
 {
     match fault {
-        DecodeFault::Truncated { at } => misplaced(ErrorName::Truncated, at),
-        DecodeFault::Malformed { at } => misplaced(ErrorName::Malformed, at),
-        DecodeFault::Trailing { at } => misplaced(ErrorName::Trailing, at),
-        DecodeFault::Memory => memory(),
-    }
-}
-
-fn misplaced(error: ErrorName, at: usize) -> Answer
-    ensures { result ≡ answers.Refused 400 error (record nothing { at = Some at }) }
-{
-    Answer::Refused {
-        status: 400,
-        error,
-        more: More {
-            at: Some(at as u64),
-            ..More::nothing()
-        },
+        DecodeFault::Truncated { at } => {
+            Answer::refused(ErrorName::Truncated, More::at_byte(at as u64))
+        }
+        DecodeFault::Malformed { at } => {
+            Answer::refused(ErrorName::Malformed, More::at_byte(at as u64))
+        }
+        DecodeFault::Trailing { at } => {
+            Answer::refused(ErrorName::Trailing, More::at_byte(at as u64))
+        }
+        DecodeFault::Memory => Answer::memory(),
     }
 }
 
 fn wrong_round(next: u64, front: u64) -> Answer
     ensures { result ≡ answers.Refused 409 errors.WrongRound (record nothing { front = Some front; next = Some next }) }
 {
-    Answer::Refused {
-        status: 409,
-        error: ErrorName::WrongRound,
-        more: More {
-            front: Some(front),
-            next: Some(next),
-            ..More::nothing()
-        },
-    }
-}
-
-fn other_chain(error: ErrorName, front: u64, hash: Hash) -> Answer
-    ensures { result ≡ answers.Refused 409 error (record nothing { front = Some front; kept = Some hash }) }
-{
-    Answer::Refused {
-        status: 409,
-        error,
-        more: More {
-            front: Some(front),
-            kept: Some(hash),
-            ..More::nothing()
-        },
-    }
+    let more = More {
+        next: Some(next),
+        ..More::at_front(front)
+    };
+    Answer::refused(ErrorName::WrongRound, more)
 }
 
 // What a block is answered that the step refuses.
@@ -185,35 +139,24 @@ fn eval_answer(front: u64, refusal: EvalRefusal<Never>) -> Answer
         EvalRefusal::Header { field } => wrong_header(front, field),
         EvalRefusal::PoolShort { .. } => short(front),
         EvalRefusal::View(never) => match never {},
-        EvalRefusal::Memory => memory(),
+        EvalRefusal::Memory => Answer::memory(),
     }
 }
 
 fn wrong_header(front: u64, field: Field) -> Answer
     ensures { result ≡ wrong_header front field }
 {
-    Answer::Refused {
-        status: 422,
-        error: ErrorName::Header,
-        more: More {
-            front: Some(front),
-            field: Some(field),
-            ..More::nothing()
-        },
-    }
+    let more = More {
+        field: Some(field),
+        ..More::at_front(front)
+    };
+    Answer::refused(ErrorName::Header, more)
 }
 
 fn short(front: u64) -> Answer
     ensures { result ≡ short front }
 {
-    Answer::Refused {
-        status: 422,
-        error: ErrorName::PoolShort,
-        more: More {
-            front: Some(front),
-            ..More::nothing()
-        },
-    }
+    Answer::refused(ErrorName::PoolShort, More::at_front(front))
 }
 
 // The refusal by a rule.
@@ -221,39 +164,15 @@ fn broken(front: u64, place: usize, rule: &Rule) -> Answer
     ensures { result ≡ broken_at front place rule.now }
 {
     let who = if rule.number == 42 { None } else { rule.who };
-    Answer::Refused {
-        status: 422,
-        error: ErrorName::Broken,
-        more: More {
-            front: Some(front),
-            place: Some(place as u64),
-            rule: Some(rule.number),
-            has: rule.has,
-            needs: rule.needs,
-            until: rule.until,
-            id: rule.id,
-            who,
-            ..More::nothing()
-        },
-    }
-}
-
-fn not_built() -> Answer
-    ensures { result ≡ not_built }
-{
-    Answer::Refused {
-        status: 501,
-        error: ErrorName::NotBuilt,
-        more: More::nothing(),
-    }
-}
-
-fn memory() -> Answer
-    ensures { result ≡ memory_answer }
-{
-    Answer::Refused {
-        status: 507,
-        error: ErrorName::Memory,
-        more: More::nothing(),
-    }
+    let more = More {
+        place: Some(place as u64),
+        rule: Some(rule.number),
+        has: rule.has,
+        needs: rule.needs,
+        until: rule.until,
+        id: rule.id,
+        who,
+        ..More::at_front(front)
+    };
+    Answer::refused(ErrorName::Broken, more)
 }

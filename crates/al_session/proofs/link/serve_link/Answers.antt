@@ -1,76 +1,65 @@
-use Rattle.std.proofs.Common.{rules, ◌≡◌, ◌∙◌, [], ◌∷◌, ◌++◌, refl, arith, length-append}
+use Rattle.std.proofs.Common.{◌≡◌, ◌∙◌, ◌+◌, [], ◌∷◌, ◌++◌, refl, subst, arith, length-append}
+use Rattle.al_base.specs.Causes.{Rose}
 use Rattle.al_states.specs.declared.told.Told.{Told}
 use Rattle.al_states.specs.Keeping.{held}
 use Rattle.al_session.proofs.TakingLemmas.{request_length}
-use Rattle.al_session.proofs.ServeLemmas.{begins, took, finished, cut_short, source_failed, no_memory, spent, unreadable, refusal_failed, answered, goes_on, answer_failed, body_seen, rest_of, length_more}
+use Rattle.al_session.proofs.ServeLemmas.{begins, took, spent, stopped_at, stopped_counts, answered, goes_on, answer_failed, body_seen, rest_of, length_more}
 use Rattle.al_session.proofs.link.serve_link.Goals as goal
 
 pub loop-i-init : goal.loop-i-init
-loop-i-init g c = ([], [], rw c.new-inbox.ensures (begins (held c.args.states.now) (g.S.Source.left c.args.source.now) (g.T.Sink.written c.args.sink.now)), refl, refl, omega arith, omega arith, omega arith, c.requires, c.front-caller.ensures.front)
+loop-i-init g c = ([], [], rw c.new-inbox.ensures (begins (held c.args.states.now) (g.S.Source.left c.args.source.now) (g.T.Sink.written c.args.sink.now)), refl, refl, omega arith, refl, refl, c.requires, c.front-caller.ensures.front)
 
 pub returns-clause-serves : goal.returns-clause-serves
 returns-clause-serves g c =
     let i = c.loop-i.invariant in
     spent _ (held c.loop-i.states) _ _ _ _ c.loop-i.inbox i.0 i.1 i.2 (omega (arith, i.3))
 
-pub returns-in-Memory-clause-serves : goal.returns-in-Memory-clause-serves
-returns-in-Memory-clause-serves g c =
-    let i = c.loop-i.invariant in
-    let x = c.in-Memory.ensures.bytes in
-    no_memory _ (held c.loop-i.states) _ (g.S.Source.left c.loop-i.source) _ _ _ c.loop-i.inbox x.0 i.0 i.1 i.2 x.1
-
-pub returns-in-Fault-clause-serves : goal.returns-in-Fault-clause-serves
-returns-in-Fault-clause-serves g c =
-    let i = c.loop-i.invariant in
-    let x = c.in-Fault.ensures.bytes in
-    source_failed _ (held c.loop-i.states) _ _ _ _ c.next.new.self i.0 i.1 (took _ (held c.loop-i.states) _ (g.S.Source.left c.loop-i.source) _ _ _ c.loop-i.inbox c.next.new.self i.0 i.1 i.2 x.0) x.1
-
-pub returns-in-End-clause-serves : goal.returns-in-End-clause-serves
-returns-in-End-clause-serves g c =
-    let i = c.loop-i.invariant in
-    let x = c.in-End.ensures.bytes in
-    cut_short _ (held c.loop-i.states) _ _ _ _ c.next.new.self i.0 i.1 _ (took _ (held c.loop-i.states) _ (g.S.Source.left c.loop-i.source) _ _ _ c.loop-i.inbox c.next.new.self i.0 i.1 i.2 x.0) (search rules) x.1 x.2 (search rules)
-
-pub returns-then-len-eq0-clause-serves : goal.returns-then-len-eq0-clause-serves
-returns-then-len-eq0-clause-serves g c =
-    let i = c.loop-i.invariant in
-    let x = c.in-End.ensures.bytes in
-    finished _ (held c.loop-i.states) _ _ _ _ c.next.new.self i.0 i.1 (took _ (held c.loop-i.states) _ (g.S.Source.left c.loop-i.source) _ _ _ c.loop-i.inbox c.next.new.self i.0 i.1 i.2 x.0) (search rules) x.2
-
-pub returns-in-Ok-clause-serves : goal.returns-in-Ok-clause-serves
-returns-in-Ok-clause-serves g c =
-    let i = c.loop-i.invariant in
-    let x = c.in-Refused.ensures.bytes in
-    unreadable _ (held c.loop-i.states) _ _ _ (g.T.Sink.written c.loop-i.sink) _ c.next.new.self c.not_built_text.result.now i.0 i.1 (took _ (held c.loop-i.states) _ (g.S.Source.left c.loop-i.source) _ _ _ c.loop-i.inbox c.next.new.self i.0 i.1 i.2 x.0) x.1 c.not_built_text.ensures c.in-Ok.ensures.bytes
-
 pub returns-in-Err-clause-serves : goal.returns-in-Err-clause-serves
 returns-in-Err-clause-serves g c =
     let i = c.loop-i.invariant in
-    let x = c.in-Refused.ensures.bytes in
-    let put = c.in-Err.ensures.bytes in
-    refusal_failed _ (held c.loop-i.states) _ _ _ (g.T.Sink.written c.loop-i.sink) _ c.next.new.self c.not_built_text.result.now put.0 i.0 i.1 (took _ (held c.loop-i.states) _ (g.S.Source.left c.loop-i.source) _ _ _ c.loop-i.inbox c.next.new.self i.0 i.1 i.2 x.0) x.1 c.not_built_text.ensures put.1 put.2
+    stopped_at _ (held c.loop-i.states) _ (g.S.Source.left c.loop-i.source) _ _ (g.T.Sink.written c.loop-i.sink) _ c.loop-i.inbox c.next.new.self i.0 i.1 c.in-Err.stop (c.loop-i.done + c.len-waiting.result) c.len-waiting.result c.end.result i.2 c.in-Err.ensures.bytes c.len-waiting.ensures (omega (arith, i.4)) c.end.ensures.ends
+
+pub returns-in-Err-clause-source_fault : goal.returns-in-Err-clause-source_fault
+returns-in-Err-clause-source_fault g c =
+    let i = c.loop-i.invariant in
+    (stopped_counts c.in-Err.stop (c.loop-i.done + c.len-waiting.result) c.len-waiting.result (g.T.Sink.written c.loop-i.sink) (g.T.Sink.written c.end.new.sink) c.end.result (g.S.Source.faults c.args.source.now) (g.S.Source.faults c.loop-i.source) (g.S.Source.faults c.next.new.source) i.6 c.end.ensures.ends c.in-Err.ensures.kept).0
+
+pub returns-in-Err-clause-sink_fault : goal.returns-in-Err-clause-sink_fault
+returns-in-Err-clause-sink_fault g c =
+    let i = c.loop-i.invariant in
+    λ e. subst (λ k. Rose k (g.T.Sink.faults c.end.new.sink)) i.7 (c.end.ensures.sink_fault e)
+
+pub returns-in-Err-clause-kept : goal.returns-in-Err-clause-kept
+returns-in-Err-clause-kept g c =
+    let i = c.loop-i.invariant in (
+      (stopped_counts c.in-Err.stop (c.loop-i.done + c.len-waiting.result) c.len-waiting.result (g.T.Sink.written c.loop-i.sink) (g.T.Sink.written c.end.new.sink) c.end.result (g.S.Source.faults c.args.source.now) (g.S.Source.faults c.loop-i.source) (g.S.Source.faults c.next.new.source) i.6 c.end.ensures.ends c.in-Err.ensures.kept).1,
+      λ n. c.end.ensures.kept n ∙ i.7,
+    )
 
 pub returns-in-Err-send-clause-serves : goal.returns-in-Err-send-clause-serves
 returns-in-Err-send-clause-serves g c =
     let i = c.loop-i.invariant in
-    let x = c.in-Got.ensures.bytes in
+    let x = c.in-Ok.ensures.bytes in
     let put = c.in-Err-send.ensures.bytes in
     let new = held c.answer-told.new.self in
     let s = took _ (held c.loop-i.states) _ (g.S.Source.left c.loop-i.source) _ _ _ c.loop-i.inbox c.next.new.self i.0 i.1 i.2 x.0 in
-    let done = answered _ (held c.loop-i.states) new _ _ _ (g.T.Sink.written c.loop-i.sink) c.next.new.self x.1.1 _ i.0 i.1 x.1.0 c.in-Got.ask c.in-Got.size c.answer-told.result put.0 s x.1.2 x.1.3 x.1.6 (body_seen c.next.new.self c.waiting.result.now x.1.0 x.1.1 c.in-Got.used c.in-Got.size c.waiting.ensures x.1.4 x.1.5 x.1.6) c.answer-told.ensures.answered put.1 in
+    let done = answered _ (held c.loop-i.states) new _ _ _ (g.T.Sink.written c.loop-i.sink) c.next.new.self x.1.1 _ i.0 i.1 x.1.0 c.in-Ok.piece.request c.in-Ok.piece.size c.answer-told.result put.0 s x.1.2 x.1.3 x.1.6 (body_seen c.next.new.self c.waiting.result.now x.1.0 x.1.1 c.in-Ok.piece.used c.in-Ok.piece.size c.waiting.ensures x.1.4 x.1.5 x.1.6) c.answer-told.ensures.answered put.1 in
     let out : Told = record { front = c.answer-told.result.front; answer = put.0 } in
     answer_failed _ new _ _ _ (g.T.Sink.written c.loop-i.sink) _ x.1.1 i.0 i.1 x.1.0 out put.2.0 done s.written put.2.1 put.2.2
+
+pub returns-in-Err-send-clause-kept : goal.returns-in-Err-send-clause-kept
+returns-in-Err-send-clause-kept g c = (λ n. c.in-Ok.ensures.kept ∙ c.loop-i.invariant.6, λ n. absurd (n refl))
 
 pub loop-i-preserved : goal.loop-i-preserved
 loop-i-preserved g c =
     let i = c.loop-i.invariant in
-    let x = c.in-Got.ensures.bytes in
+    let x = c.in-Ok.ensures.bytes in
     let put = c.in-Ok-send.ensures.bytes in
     let new = held c.answer-told.new.self in
     let s = took _ (held c.loop-i.states) _ (g.S.Source.left c.loop-i.source) _ _ _ c.loop-i.inbox c.next.new.self i.0 i.1 i.2 x.0 in
-    let done = answered _ (held c.loop-i.states) new _ _ _ (g.T.Sink.written c.loop-i.sink) c.next.new.self x.1.1 _ i.0 i.1 x.1.0 c.in-Got.ask c.in-Got.size c.answer-told.result put.0 s x.1.2 x.1.3 x.1.6 (body_seen c.next.new.self c.waiting.result.now x.1.0 x.1.1 c.in-Got.used c.in-Got.size c.waiting.ensures x.1.4 x.1.5 x.1.6) c.answer-told.ensures.answered put.1 in
+    let done = answered _ (held c.loop-i.states) new _ _ _ (g.T.Sink.written c.loop-i.sink) c.next.new.self x.1.1 _ i.0 i.1 x.1.0 c.in-Ok.piece.request c.in-Ok.piece.size c.answer-told.result put.0 s x.1.2 x.1.3 x.1.6 (body_seen c.next.new.self c.waiting.result.now x.1.0 x.1.1 c.in-Ok.piece.used c.in-Ok.piece.size c.waiting.ensures x.1.4 x.1.5 x.1.6) c.answer-told.ensures.answered put.1 in
     let out : Told = record { front = c.answer-told.result.front; answer = put.0 } in
     let next = goes_on _ new _ _ _ (g.T.Sink.written c.loop-i.sink) _ x.1.1 i.0 i.1 x.1.0 out done s.written put.2 in
-    let left : c.pass.new.self ≡ x.1.1 = c.pass.ensures ∙ rest_of c.next.new.self x.1.0 x.1.1 c.in-Got.used c.in-Got.size x.1.4 x.1.5 x.1.6 in
-    let long = request_length x.1.0 c.in-Got.ask c.in-Got.used c.in-Got.size x.1.4 x.1.5 x.1.2 x.1.3 in
-    (i.0 ++ x.1.0 ∷ [], i.1 ++ out ∷ [], rw left next, omega (arith, i.3, length-append i.0 (x.1.0 ∷ [])), omega (arith, i.4, long.0, length_more i.0 x.1.0), omega (arith, i.5, long.1), omega (arith, i.6, c.next.ensures.later), omega (arith, i.7, c.send.ensures.cause.later), c.answer-told.ensures.states, c.answer-told.ensures.answered.front)
+    let left : c.pass.new.self ≡ x.1.1 = c.pass.ensures ∙ rest_of c.next.new.self x.1.0 x.1.1 c.in-Ok.piece.used c.in-Ok.piece.size x.1.4 x.1.5 x.1.6 in
+    let long = request_length x.1.0 c.in-Ok.piece.request c.in-Ok.piece.used c.in-Ok.piece.size x.1.4 x.1.5 x.1.2 x.1.3 in
+    (i.0 ++ x.1.0 ∷ [], i.1 ++ out ∷ [], rw left next, omega (arith, i.3, length-append i.0 (x.1.0 ∷ [])), omega (arith, i.4, long.0, length_more i.0 x.1.0), omega (arith, i.5, long.1), c.in-Ok.ensures.kept ∙ i.6, c.in-Ok-send.ensures.cause.kept ∙ i.7, c.answer-told.ensures.states, c.answer-told.ensures.answered.front)

@@ -1,9 +1,9 @@
 use Rattle.std.proofs.Common.{arith}
-use Rattle.al_session.proofs.TakingLemmas.{wait_ends}
+use Rattle.std.proofs.lemmas.Result.{err_from_is_err_and}
+use Rattle.al_session.proofs.TakingLemmas.{wait_stops}
 use Rattle.al_session.proofs.inbox.Inbox.wait_for.Goals as goal
 
-pub returns-in_default : goal.returns-in_default
-returns-in_default g c = record {
-  bytes = wait_ends _ c.loop-self.self _ _ (g.S.Source.left c.loop-self.source) _ _ (g.S.Source.faults c.loop-self.source) _ _ c.fill.result c.loop-self.invariant.grown (omega arith) c.loop-self.invariant.later c.fill.ensures.bytes c.in_default.not-More;
-  later = omega (arith, c.loop-self.invariant.later, c.fill.ensures.later);
-}
+pub returns-in_err-fill-clause-bytes : goal.returns-in_err-fill-clause-bytes
+returns-in_err-fill-clause-bytes g c =
+    let p = err_from_is_err_and c.from_residual.result c.from_residual.ensures.1 in
+    rw (p.1, p.2) (wait_stops _ c.loop-self.self _ _ (g.S.Source.left c.loop-self.source) _ c.args.need c.in_err-fill.field-0.0 c.loop-self.invariant.grown (omega arith) c.in_err-fill.ensures.bytes)
