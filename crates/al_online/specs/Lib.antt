@@ -1,0 +1,3 @@
+pub mod Stakes
+pub mod Memory
+pub mod Search
