@@ -5,10 +5,12 @@
 //! can be taken back, and those that nobody asks for any more are pruned.
 #![tactic(auto)]
 
+mod laws;
 mod memory;
 mod search;
 mod snapshot;
 mod stake;
 
+pub use laws::memory_shows;
 pub use memory::OnlineMemory;
 pub use stake::{RoundParams, Stake};
