@@ -1,0 +1,4 @@
+pub mod Stakes
+pub mod Memory
+pub mod Search
+pub mod Laws
