@@ -1,0 +1,4 @@
+pub mod Counts
+pub mod PartsShown
+pub mod Same
+pub mod Meaning
