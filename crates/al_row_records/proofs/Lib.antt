@@ -2,3 +2,4 @@ pub mod Counts
 pub mod PartsShown
 pub mod Same
 pub mod Meaning
+pub mod Ranged

@@ -178,7 +178,7 @@ pub record Under (k : Key) (r : Row) (es : List Entry) : Type 0 where
   pub fields : es ≡ row_written r
   pub sound : row_fault k es ≡ None
 
-no_row : {A : Type 0} → false ≡ true → A
+pub no_row : {A : Type 0} → false ≡ true → A
 no_row h = absurd (false≢true h)
 
 pub row_determined : (k : Key) (x y : Row) (es : List Entry) → Under k x es → Under k y es → x ≡ y

@@ -11,6 +11,8 @@ mod app_record;
 mod asset_record;
 mod box_record;
 mod decoding;
+mod laws;
 mod row_record;
 
 pub use decoding::{RowFault, decode_row, encode_row};
+pub use laws::row_record_laws;
