@@ -1,5 +1,5 @@
 -- The ranges of an account row that was read.
-use Rattle.std.proofs.Common.{◌≡◌, ◌≤◌, ℕ, Bool, true, false, nat_le, List, Option, None, codes, refl}
+use Rattle.std.proofs.Common.{◌≡◌, ◌≤◌, ℕ, Bool, true, false, nat_le, List, None, codes, refl}
 use Rattle.std.proofs.lemmas.Bool.{leb-true}
 use Rattle.al_msgpack.specs.declared.val.Entry.{Entry}
 use Rattle.al_record.specs.Columns.{field_fault, first_fault, heads, number_of, range_fault, rules_of, unless_range, value_at}

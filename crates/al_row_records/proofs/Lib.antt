@@ -3,3 +3,4 @@ pub mod PartsShown
 pub mod Same
 pub mod Meaning
 pub mod Ranged
+pub mod Within

@@ -1,5 +1,5 @@
 -- An input has one meaning.
-use Rattle.std.proofs.Common.{◌≡◌, ℕ, Bool, true, false, List, Option, Some, None, Result, Ok, Err, refl, sym, ap, ◌∙◌}
+use Rattle.std.proofs.Common.{◌≡◌, ℕ, List, Some, None, Result, Ok, Err, refl, sym, ap, ◌∙◌}
 use Rattle.std.proofs.lemmas.Bool.{false≢true}
 use Rattle.al_base.specs.declared.key.Key.{Key}
 use Rattle.al_msgpack.specs.declared.val.Val.{Val, out-Val}
@@ -19,12 +19,12 @@ use Rattle.al_rows.specs.Rows.{is_zero}
 use Rattle.al_row_records.specs.declared.decoding.RowFault.{RowFault}
 use Rattle.al_row_records.specs.declared.decoding.RowFault.TheVariants as faults
 use Rattle.al_row_records.specs.RowRecords.{row_written, row_fault, value_fault, IsRecordUnder, IsRow, IsZeroRow, IsFaulty, RowMeans, RowMeansUnless, RowAnswers}
-use Rattle.al_row_records.proofs.Same.{Under, row_determined}
+use Rattle.al_row_records.proofs.Same.{row_determined}
 
 map_back : (es ds : List Entry) → values.Map es ≡ values.Map ds → es ≡ ds
 map_back es ds e = ap map_in (sym (views.outs-Map es)) ∙ ap (λ (v : Val). map_in (out-Val v)) e ∙ ap map_in (views.outs-Map ds)
 
-of_row : (k : Key) (input : List ℕ) (r : Row) → IsRecordUnder k input r → row_fault k (row_written r) ≡ None
+pub of_row : (k : Key) (input : List ℕ) (r : Row) → IsRecordUnder k input r → row_fault k (row_written r) ≡ None
 of_row k input r m = ap (member_open (row_fault k)) (sym (views.outs-Map (row_written r))) ∙ m.sound
 
 -- bytes spell at most one row

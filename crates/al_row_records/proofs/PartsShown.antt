@@ -9,7 +9,7 @@ use Rattle.al_msgpack.specs.declared.val.Val.TheVariants as values
 use Rattle.al_msgpack.specs.declared.val.Val.TheViews as views
 use Rattle.al_msgpack.specs.declared.val.Entry.{Entry}
 use Rattle.al_msgpack.specs.Rising.{rises}
-use Rattle.al_record.specs.Columns.{FieldOf, IsRecord, AllShown, Shows, rule, put, entries, first_fault, heads, number_of, rules_of, table, value_at, with_entry}
+use Rattle.al_record.specs.Columns.{FieldOf, IsRecord, AllShown, rule, put, entries, first_fault, heads, number_of, rules_of, table, value_at, with_entry}
 use Rattle.al_record.specs.Kinds.{kind_fault, number_kind}
 use Rattle.al_record.proofs.Engine.{names}
 use Rattle.al_bodies.specs.Bodies.{params_fields}

@@ -1,5 +1,5 @@
 -- Rows in their ranges have records, which have spellings.
-use Rattle.std.proofs.Common.{◌≡◌, ◌<◌, ◌≤◌, ◌^◌, ℕ, Bool, true, false, is_some, List, [], ◌∷◌, length, Option, Some, None, IfSome, refl, ap, ◌∙◌, arith}
+use Rattle.std.proofs.Common.{◌≡◌, ◌<◌, ◌≤◌, ◌^◌, ℕ, true, false, is_some, List, length, Option, Some, None, IfSome, refl, ap, ◌∙◌, arith}
 use Rattle.al_base.specs.declared.account.Status.{Status}
 use Rattle.al_base.specs.declared.account.Status.TheVariants.{Offline, Online, NotParticipating}
 use Rattle.al_base.specs.declared.asset.AssetParams.{AssetParams}

@@ -1,5 +1,5 @@
 -- The record of a row determines the row.
-use Rattle.std.proofs.Common.{◌≡◌, ℕ, Bool, true, false, List, [], ◌∷◌, Option, Some, None, Ok, is_some, codes, refl, sym, ap, ap₂, subst, ◌∙◌}
+use Rattle.std.proofs.Common.{◌≡◌, ℕ, Bool, true, false, List, Option, Some, None, Ok, is_some, codes, refl, sym, ap, ap₂, subst, ◌∙◌}
 use Rattle.std.proofs.lemmas.Bool.{false≢true}
 use Rattle.al_base.specs.declared.account.Status.{Status}
 use Rattle.al_base.specs.declared.account.Status.TheVariants.{Offline, Online, NotParticipating}
@@ -7,7 +7,7 @@ use Rattle.al_base.specs.declared.asset.AssetParams.{AssetParams}
 use Rattle.al_base.specs.declared.key.Key.{Key}
 use Rattle.al_base.specs.declared.key.Key.TheVariants as key
 use Rattle.al_msgpack.specs.declared.val.Entry.{Entry}
-use Rattle.al_record.specs.Columns.{FieldOf, IsRecord, AllShown}
+use Rattle.al_record.specs.Columns.{FieldOf, IsRecord}
 use Rattle.al_record.specs.Kinds.{number_kind}
 use Rattle.al_record.specs.Laws.{AllAgree}
 use Rattle.al_record.proofs.Laws.{record_shows}

@@ -1,6 +1,5 @@
 -- What the readers of parts say: the part of a row that stands in entries.
-use Rattle.std.specs.Prelude.{◌≡◌, Bool, true, false, List, Option, Some, None}
-use Rattle.al_base.specs.declared.asset.AssetParams.{AssetParams}
+use Rattle.std.specs.Prelude.{Bool, true, false, List, Option, Some, None}
 use Rattle.al_msgpack.specs.declared.val.Entry.{Entry}
 use Rattle.al_record.specs.Columns.{FieldOf, AllShown}
 

@@ -1,5 +1,5 @@
 -- Rows under their keys, and what an input is that should spell one.
-use Rattle.std.specs.Prelude.{◌≡◌, ℕ, Bool, true, false, List, Option, Some, None, Result, Ok, Err}
+use Rattle.std.specs.Prelude.{◌≡◌, ◌<◌, ◌^◌, ℕ, Bool, true, false, List, Option, Some, None, Result, Ok, Err}
 use Rattle.al_base.specs.declared.key.Key.{Key}
 use Rattle.al_base.specs.declared.key.Key.TheVariants as key
 use Rattle.al_msgpack.specs.declared.val.Val.{Val, out-Val}
@@ -12,7 +12,7 @@ use Rattle.al_record.specs.declared.fault.ReadError.{ReadError}
 use Rattle.al_record.specs.Columns.{Fails, member_open}
 use Rattle.al_rows.specs.declared.row.Row.{Row}
 use Rattle.al_rows.specs.declared.row.Row.TheVariants as row
-use Rattle.al_rows.specs.Rows.{is_zero}
+use Rattle.al_rows.specs.Rows.{AssetParamsInRange, HoldingInRange, is_zero}
 use Rattle.al_row_records.specs.declared.decoding.RowFault.{RowFault}
 use Rattle.al_row_records.specs.declared.decoding.RowFault.TheVariants as faults
 use Rattle.al_row_records.specs.Tables.{account, asset, app, box, resource_fault}
@@ -107,3 +107,13 @@ RowAnswers (Err (faults.Decode f)) answer = answer ≡ Err (faults.Decode f)
 RowAnswers (Err (faults.Field name)) answer = answer ≡ Err (faults.Field name)
 RowAnswers (Err (faults.Range name)) answer = answer ≡ Err (faults.Range name)
 RowAnswers (Err faults.ZeroRow) answer = answer ≡ Err faults.ZeroRow
+
+-- the numbers of a key and of an asset row have 64 bits
+abbrev pub FitsKey : Key → Type 0
+FitsKey (key.Account who) = Unit {0}
+FitsKey (key.Resource who id) = id < 2 ^ 64
+FitsKey (key.Box number name) = number < 2 ^ 64
+
+abbrev pub FitsRow : Row → Type 0
+FitsRow (row.Asset a) = AssetParamsInRange a.params × HoldingInRange a.holding
+FitsRow r = Unit {0}

@@ -1,5 +1,5 @@
 -- The records of rows: the fields of each kind.
-use Rattle.std.specs.Prelude.{◌==◌, ◌++◌, ◌^◌, ℕ, Bool, true, false, is_some, map, replicate, codes, List, [], ◌∷◌, Option, Some, None, if◌then◌else◌}
+use Rattle.std.specs.Prelude.{◌==◌, ◌++◌, ◌^◌, ℕ, Bool, false, is_some, map, replicate, codes, List, [], ◌∷◌, Option, Some, None, if◌then◌else◌}
 use Rattle.al_base.specs.declared.account.Status.{Status}
 use Rattle.al_base.specs.declared.account.Status.TheVariants.{Offline, Online, NotParticipating}
 use Rattle.al_base.specs.declared.asset.AssetParams.{AssetParams}

@@ -1,17 +1,18 @@
 //! Rows from bytes, and bytes of rows.
-ghost use Rattle.std.specs.Prelude.{◌≡◌, ◌++◌, ◌<◌, ◌^◌, ℕ, List, Result, length, OnErr, OnOk};
+ghost use Rattle.std.specs.Prelude.{◌≡◌, ◌++◌, ◌<◌, ◌^◌, ℕ, List, Result, length, IfOk, OnErr, OnOk};
 ghost use Rattle.al_base.specs.declared.key.Key.{Key};
 ghost use Rattle.al_msgpack.specs.declared.val.Val.TheVariants as values;
 ghost use Rattle.al_msgpack.specs.Spelled.{spelled};
-ghost use Rattle.al_row_records.specs.RowRecords.{IsRow, RowAnswers, RowMeans, RowMeansUnless, row_written};
+ghost use Rattle.al_row_records.specs.RowRecords.{FitsKey, FitsRow, IsRow, RowAnswers, RowMeans, RowMeansUnless, row_written};
 ghost use Rattle.al_row_records.specs.declared.decoding.RowFault.{RowFault};
 ghost use Rattle.al_rows.specs.declared.row.Row.{Row};
+ghost use Rattle.al_rows.specs.Rows.{AssetParamsInRange, HoldingInRange, IsKept};
 
 use crate::row_record::{read_row, write_row};
-use al_base::{Bytes, Key};
+use al_base::{AssetParams, Bytes, Key};
 use al_msgpack::{DecodeFault, decode};
 use al_record::{Fault, ReadError};
-use al_rows::Row;
+use al_rows::{Holding, Row};
 use std::alloc::{AllocError, Global};
 use thiserror::Error;
 
@@ -50,9 +51,67 @@ pub fn decode_row(alloc: Global, key: &Key, input: &[u8]) -> Result<Row, RowFaul
     ensures right { RowMeansUnless key.now input.now result }
     // What is right is answered, unless memory runs out.
     ensures only { (r : Result Row RowFault) → RowMeans key.now input.now r → RowAnswers result r }
+    // The row may be kept under the key.
+    ensures kept { IfOk result (λ r. IsKept key.now r) }
 {
-    judge(alloc, key, input)
+    match judge(alloc, key, input) {
+        Ok(row) => {
+            key_fits(key);
+            row_fits(&row);
+            Ok(row)
+        }
+        Err(fault) => Err(fault),
+    }
 }
+
+/// No effect at run time. The proof reads that the key's number has 64 bits.
+fn key_fits(key: &Key)
+    ensures { FitsKey key.now }
+{
+    match key {
+        Key::Account(_) => {}
+        Key::Resource(_, id) => {
+            let _id = *id;
+        }
+        Key::Box(app, _) => {
+            let _app = *app;
+        }
+    }
+}
+
+/// The same of the numbers of an asset row.
+fn row_fits(row: &Row)
+    ensures { FitsRow row.now }
+{
+    if let Row::Asset(a) = row {
+        params_fit(&a.params);
+        holding_fits(&a.holding);
+    }
+}
+
+/// The same of parameters.
+fn params_fit(params: &Option<AssetParams>)
+    ensures { AssetParamsInRange params.now }
+{
+    if let Some(p) = params {
+        number_fits(p.total);
+        number_fits(p.decimals);
+    }
+}
+
+/// The same of a holding.
+fn holding_fits(holding: &Option<Holding>)
+    ensures { HoldingInRange holding.now }
+{
+    if let Some(h) = holding {
+        number_fits(h.amount);
+    }
+}
+
+/// The same of a number.
+fn number_fits(n: u64)
+    ensures { n < 2 ^ 64 }
+{}
 
 /// The verdict on an input.
 fn judge(alloc: Global, key: &Key, input: &[u8]) -> Result<Row, RowFault>
