@@ -1,0 +1,9 @@
+use Rattle.std.proofs.Common.{Bool, true, sym, subst}
+use Rattle.al_record.specs.Columns.{Passes, first_fault, rules_of}
+use Rattle.al_row_records.specs.Tables.{app_fields}
+use Rattle.al_row_records.proofs.app_record.check_parts.Goals as goal
+
+pub returns-in-true-true : goal.returns-in-true-true
+returns-in-true-true c =
+    subst (λ (b : Bool). Passes (first_fault (rules_of (app_fields b c.args.given)) c.args.entries.now) c.check.result) (sym c.in-true-true.is-0)
+    (subst (λ (b : Bool). Passes (first_fault (rules_of (app_fields true b)) c.args.entries.now) c.check.result) (sym c.in-true-true.is-1) c.check.ensures)

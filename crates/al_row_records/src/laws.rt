@@ -1,0 +1,10 @@
+//! The laws of the records of rows.
+ghost use Rattle.al_row_records.specs.Ranges.{HasOneSpelling, SpellsOneRow, SpellsRows};
+
+/// A row in its ranges that is no zero row is spelled by what the encoder appends, and by nothing
+/// else; bytes spell at most one row under a key.
+pub fn row_record_laws()
+    ensures spelled { SpellsRows }
+    ensures one { HasOneSpelling }
+    ensures once { SpellsOneRow }
+{}
