@@ -9,7 +9,7 @@ use Rattle.al_txn.specs.declared.txn.Item.{Item}
 use Rattle.al_moves.specs.declared.rule.Rule.{Rule}
 use Rattle.al_moves.specs.Rules.{then_do, plain_rule, unless_refused, held_until as rule_until}
 use Rattle.al_eval.specs.declared.tail.Entry.{Entry}
-use Rattle.al_eval.specs.Past.{entry_of, live, has_id, later, later_of, greatest_last, holds_lease, from_round, lease_until}
+use Rattle.al_eval.specs.Past.{entry_of, live, has_id, later, later_of, greatest_last, holds_lease, is_no_lease, from_round, lease_until}
 use Rattle.al_eval.specs.Groups.{opened, size_of}
 use Rattle.al_eval.specs.Body.{Context}
 use Rattle.al_eval.specs.Items.{window_fault, item_fault, applied, transacted, at_place, all_items}
@@ -88,7 +88,7 @@ module _ (round : ℕ) (p q : List Entry) (alive : live round p ≡ live round q
   unfolding item_fault
   faults_agree i =
       let e = entry_of i.txn in
-      ap₂ (λ (b : Bool) (o : Option ℕ). option_or (window_fault round i.txn) (option_or (if b then Some (plain_rule 30) else None) (option_map (rule_until 31) (if same_bytes e.lease (replicate 32 0) then None else o))))
+      ap₂ (λ (b : Bool) (o : Option ℕ). option_or (window_fault round i.txn) (option_or (if b then Some (plain_rule 30) else None) (option_map (rule_until 31) (if is_no_lease e.lease then None else o))))
       (ids_agree e.id) (leases_agree e.sender e.lease)
 
   live_more : (e : Entry) → live round (p ++ e ∷ []) ≡ live round (q ++ e ∷ [])

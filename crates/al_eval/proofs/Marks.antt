@@ -1,5 +1,5 @@
 -- The marks of entries: their order, and what is put under the two of an entry.
-use Rattle.std.proofs.Common.{◌≡◌, ℕ, List, refl, sym, ap, ◌∙◌, subst, Option, Some, Bool, true, false, cond, ◌&&◌, IsSome, Ordering, Less, Equal, Greater, is_eq, nat_cmp}
+use Rattle.std.proofs.Common.{◌≡◌, ℕ, List, refl, sym, ap, ◌∙◌, subst, Option, Some, Bool, true, false, not, cond, ◌&&◌, IsSome, Ordering, Less, Equal, Greater, is_eq, nat_cmp}
 use Rattle.std.proofs.lemmas.Bool.{and_parts, and_from}
 use Rattle.std.proofs.lemmas.Map.Text.{is_eq-slice_cmp}
 use Rattle.std.specs.Ordering.{ordering_then}
@@ -14,7 +14,7 @@ use Rattle.al_eval.specs.declared.latest.Mark.{Mark}
 use Rattle.al_eval.specs.declared.latest.Mark.TheVariants.{Id, Lease}
 use Rattle.al_eval.specs.contracts.latest.MarkOrd.TheImpl as derived
 use Rattle.al_eval.specs.declared.tail.Entry.{Entry}
-use Rattle.al_eval.specs.Past.{later}
+use Rattle.al_eval.specs.Past.{is_no_lease, later}
 use Rattle.al_eval.specs.Latest.{mark_cmp, has_mark, id_mark, lease_mark, raised}
 
 -- the derived comparison is this order
@@ -66,18 +66,19 @@ own (Id id) e = id_mark e
 own (Lease sender lease) e = lease_mark e
 
 -- an entry has a mark where its own of that kind is at it
-has_at : (q : Mark) (e : Entry) → is_at (mark_cmp (own q e)) q ≡ has_mark q e
-has_at (Id id) e = is_eq-slice_cmp e.id id
-has_at (Lease sender lease) e =
+has_at : (q : Mark) (e : Entry) → is_no_lease e.lease ≡ false → is_at (mark_cmp (own q e)) q ≡ has_mark q e
+has_at (Id id) e n = is_eq-slice_cmp e.id id
+has_at (Lease sender lease) e n =
     then_eq (address_cmp e.sender sender) (slice_cmp nat_cmp e.lease lease)
     ∙ ap (λ b. b && is_eq (slice_cmp nat_cmp e.lease lease)) (is_eq-slice_cmp e.sender.0 sender.0)
     ∙ ap (λ b. same_bytes e.sender.0 sender.0 && b) (is_eq-slice_cmp e.lease lease)
+    ∙ ap (λ b. not b && (same_bytes e.sender.0 sender.0 && same_bytes e.lease lease)) (sym n)
 
 pub has_id_mark : (e : Entry) → has_mark (id_mark e) e ≡ true
-has_id_mark e = sym (has_at (id_mark e) e) ∙ at_itself (id_mark e)
+has_id_mark e = sym (is_eq-slice_cmp e.id e.id) ∙ at_itself (id_mark e)
 
-pub has_lease_mark : (e : Entry) → has_mark (lease_mark e) e ≡ true
-has_lease_mark e = sym (has_at (lease_mark e) e) ∙ at_itself (lease_mark e)
+pub has_lease_mark : (e : Entry) → is_no_lease e.lease ≡ false → has_mark (lease_mark e) e ≡ true
+has_lease_mark e n = sym (has_at (lease_mark e) e n) ∙ at_itself (lease_mark e)
 
 module _ {X : Type 0} where
   -- g is f with v under the mark k
@@ -92,16 +93,24 @@ module _ {X : Type 0} where
       by_test true e = ap v (same_mark k q e)
       by_test false e = refl
 
-  at_own : (q : Mark) (e : Entry) (v : Mark → Option X) (z : Option X) → cond (is_at (mark_cmp (own q e)) q) (v (own q e)) z ≡ cond (has_mark q e) (v q) z
-  at_own q e v z = at_same (own q e) q v z ∙ ap (λ b. cond b (v q) z) (has_at q e)
+  at_own : (q : Mark) (e : Entry) (v : Mark → Option X) (z : Option X) → is_no_lease e.lease ≡ false → cond (is_at (mark_cmp (own q e)) q) (v (own q e)) z ≡ cond (has_mark q e) (v q) z
+  at_own q e v z n = at_same (own q e) q v z ∙ ap (λ b. cond b (v q) z) (has_at q e n)
 
   -- what is put under both marks of an entry, i and l
-  pub put_both : (e : Entry) (i l : Mark) (v f m g : Mark → Option X) → i ≡ id_mark e → l ≡ lease_mark e → IsPut i (v (id_mark e)) f m → IsPut l (v (lease_mark e)) m g → (q : Mark) → g q ≡ cond (has_mark q e) (v q) (f q)
-  put_both e i l v f m g ei el first second q = in_turn q (subst (λ (k : Mark). IsPut k (v (id_mark e)) f m) ei first q) (subst (λ (k : Mark). IsPut k (v (lease_mark e)) m g) el second q)
+  pub put_both : (e : Entry) (i l : Mark) (v f m g : Mark → Option X) → is_no_lease e.lease ≡ false → i ≡ id_mark e → l ≡ lease_mark e → IsPut i (v (id_mark e)) f m → IsPut l (v (lease_mark e)) m g → (q : Mark) → g q ≡ cond (has_mark q e) (v q) (f q)
+  put_both e i l v f m g n ei el first second q = in_turn q (subst (λ (k : Mark). IsPut k (v (id_mark e)) f m) ei first q) (subst (λ (k : Mark). IsPut k (v (lease_mark e)) m g) el second q)
     where
       in_turn : (q : Mark) → m q ≡ cond (is_at (mark_cmp (id_mark e)) q) (v (id_mark e)) (f q) → g q ≡ cond (is_at (mark_cmp (lease_mark e)) q) (v (lease_mark e)) (m q) → g q ≡ cond (has_mark q e) (v q) (f q)
-      in_turn (Id id) a b = b ∙ a ∙ at_own (Id id) e v (f (Id id))
-      in_turn (Lease s t) a b = b ∙ ap (cond (is_at (mark_cmp (lease_mark e)) (Lease s t)) (v (lease_mark e))) a ∙ at_own (Lease s t) e v (f (Lease s t))
+      in_turn (Id id) a b = b ∙ a ∙ at_own (Id id) e v (f (Id id)) n
+      in_turn (Lease s t) a b = b ∙ ap (cond (is_at (mark_cmp (lease_mark e)) (Lease s t)) (v (lease_mark e))) a ∙ at_own (Lease s t) e v (f (Lease s t)) n
+
+  -- what is put under the id of an entry that has no lease
+  pub put_id : (e : Entry) (i : Mark) (v f g : Mark → Option X) → is_no_lease e.lease ≡ true → i ≡ id_mark e → IsPut i (v (id_mark e)) f g → (q : Mark) → g q ≡ cond (has_mark q e) (v q) (f q)
+  put_id e i v f g n ei put q = at_mark q (subst (λ (k : Mark). IsPut k (v (id_mark e)) f g) ei put q)
+    where
+      at_mark : (q : Mark) → g q ≡ cond (is_at (mark_cmp (id_mark e)) q) (v (id_mark e)) (f q) → g q ≡ cond (has_mark q e) (v q) (f q)
+      at_mark (Id id) a = a ∙ at_same (id_mark e) (Id id) v (f (Id id)) ∙ ap (λ b. cond b (v (Id id)) (f (Id id))) (is_eq-slice_cmp e.id id)
+      at_mark (Lease s t) a = a ∙ ap (λ b. cond (not b && (same_bytes e.sender.0 s.0 && same_bytes e.lease t)) (v (Lease s t)) (f (Lease s t))) (sym n)
 
   -- what is put under the id leaves what is under the lease
   pub lease_stays : (e : Entry) (i l : Mark) (v : Option X) (f m : Mark → Option X) → i ≡ id_mark e → l ≡ lease_mark e → IsPut i v f m → m l ≡ f l
@@ -125,10 +134,16 @@ module _ {X : Type 0} where
       same false = refl
 
 -- the rounds under both marks of an entry are raised, the one under its lease as it stands after the first
-pub raised_both : (e : Entry) (i l : Mark) (f m g : Mark → Option ℕ) → i ≡ id_mark e → l ≡ lease_mark e → IsPut i (Some (later e.last (f i))) f m → IsPut l (Some (later e.last (m l))) m g → (q : Mark) → g q ≡ raised e f q
-raised_both e i l f m g ei el first second =
+pub raised_both : (e : Entry) (i l : Mark) (f m g : Mark → Option ℕ) → is_no_lease e.lease ≡ false → i ≡ id_mark e → l ≡ lease_mark e → IsPut i (Some (later e.last (f i))) f m → IsPut l (Some (later e.last (m l))) m g → (q : Mark) → g q ≡ raised e f q
+raised_both e i l f m g n ei el first second =
     let v : Mark → Option ℕ = λ q. Some (later e.last (f q)) in
     let first' : IsPut i (v (id_mark e)) f m = subst (λ (k : Mark). IsPut i (v k) f m) ei first in
     let same : m l ≡ f (lease_mark e) = lease_stays e i l (v (id_mark e)) f m ei el first' ∙ ap f el in
     let second' : IsPut l (v (lease_mark e)) m g = subst (λ (o : Option ℕ). IsPut l (Some (later e.last o)) m g) same second in
-    put_both e i l v f m g ei el first' second'
+    put_both e i l v f m g n ei el first' second'
+
+-- the round under the id of an entry that has no lease is raised
+pub raised_id : (e : Entry) (i : Mark) (f g : Mark → Option ℕ) → is_no_lease e.lease ≡ true → i ≡ id_mark e → IsPut i (Some (later e.last (f i))) f g → (q : Mark) → g q ≡ raised e f q
+raised_id e i f g n ei put =
+    let v : Mark → Option ℕ = λ q. Some (later e.last (f q)) in
+    put_id e i v f g n ei (subst (λ (k : Mark). IsPut i (v k) f g) ei put)

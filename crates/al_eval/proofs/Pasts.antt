@@ -6,9 +6,9 @@ use Rattle.al_eval.specs.declared.latest.Mark.{Mark}
 use Rattle.al_eval.specs.declared.latest.Mark.TheVariants.{Id}
 use Rattle.al_eval.specs.declared.tail.Entry.{Entry}
 use Rattle.al_eval.specs.declared.tail.Kept.{Kept}
-use Rattle.al_eval.specs.Past.{later, greatest_last, has_id}
+use Rattle.al_eval.specs.Past.{later, greatest_last, has_id, is_no_lease}
 use Rattle.al_eval.specs.Latest.{at, has_mark, id_mark, lease_mark, last_at, raised, entries_of, Knows, AllKnow, IsIndexed}
-use Rattle.al_eval.proofs.Marks.{IsPut, has_id_mark, has_lease_mark, lease_stays, put_both}
+use Rattle.al_eval.proofs.Marks.{IsPut, has_id_mark, has_lease_mark, lease_stays, put_both, put_id}
 
 -- ---- one entry more
 
@@ -68,7 +68,7 @@ has_id_reaches round id (e ∷ es) =
 -- ---- entries that know what stood before them
 
 knows_same : (f g : Mark → Option ℕ) (k : Kept) → ((q : Mark) → f q ≡ g q) → Knows f k → Knows g k
-knows_same f g k h n = record { id = n.id ∙ h (id_mark k.entry); lease = n.lease ∙ h (lease_mark k.entry) }
+knows_same f g k h n = record { id = n.id ∙ h (id_mark k.entry); lease = λ e. n.lease e ∙ h (lease_mark k.entry) }
 
 know_more : (front : List Entry) (ks : List Kept) (k : Kept) → AllKnow front ks → Knows (last_at (front ++ entries_of ks)) k → AllKnow front (ks ++ k ∷ [])
 know_more front [] k h n = (subst (λ (es : List Entry). Knows (last_at es) k) (append-nil front) n, tt)
@@ -118,18 +118,25 @@ pub id_has : (rs : List (Mark × ℕ)) (ks : List Kept) (k : Kept) (i : Mark) �
 id_has rs ks k i ix ei = subst (λ (q : Mark). IsSome (at rs q)) (sym ei) (last_has rs ks k (id_mark k.entry) ix (has_id_mark k.entry))
 
 -- and its lease, also after what stood under its id was put back
-pub lease_has : (rs ms : List (Mark × ℕ)) (ks : List Kept) (k : Kept) (i l : Mark) → IsIndexed rs (ks ++ k ∷ []) → i ≡ id_mark k.entry → l ≡ lease_mark k.entry → IsPut i k.id_before (at rs) (at ms) → IsSome (at ms l)
-lease_has rs ms ks k i l ix ei el first =
-    subst IsSome (sym (lease_stays k.entry i l k.id_before (at rs) (at ms) ei el first)) (subst (λ (q : Mark). IsSome (at rs q)) (sym el) (last_has rs ks k (lease_mark k.entry) ix (has_lease_mark k.entry)))
+pub lease_has : (rs ms : List (Mark × ℕ)) (ks : List Kept) (k : Kept) (i l : Mark) → is_no_lease k.entry.lease ≡ false → IsIndexed rs (ks ++ k ∷ []) → i ≡ id_mark k.entry → l ≡ lease_mark k.entry → IsPut i k.id_before (at rs) (at ms) → IsSome (at ms l)
+lease_has rs ms ks k i l n ix ei el first =
+    subst IsSome (sym (lease_stays k.entry i l k.id_before (at rs) (at ms) ei el first)) (subst (λ (q : Mark). IsSome (at rs q)) (sym el) (last_has rs ks k (lease_mark k.entry) ix (has_lease_mark k.entry n)))
 
 -- what stood under both marks of the last entry is put back
-pub indexed_back : (rs ms ns : List (Mark × ℕ)) (ks : List Kept) (k : Kept) (i l : Mark) → IsIndexed rs (ks ++ k ∷ []) → i ≡ id_mark k.entry → l ≡ lease_mark k.entry
+pub indexed_back : (rs ms ns : List (Mark × ℕ)) (ks : List Kept) (k : Kept) (i l : Mark) → is_no_lease k.entry.lease ≡ false → IsIndexed rs (ks ++ k ∷ []) → i ≡ id_mark k.entry → l ≡ lease_mark k.entry
     → IsPut i k.id_before (at rs) (at ms) → IsPut l k.lease_before (at ms) (at ns) → IsIndexed ns ks
-indexed_back rs ms ns ks k i l ix ei el first second =
-    let n = (know_fewer [] ks k ix.know).1 in
-    indexed_fewer rs ns ks k ix (put_both k.entry i l (last_at (entries_of ks)) (at rs) (at ms) (at ns) ei el
-    (subst (λ (o : Option ℕ). IsPut i o (at rs) (at ms)) n.id first)
-    (subst (λ (o : Option ℕ). IsPut l o (at ms) (at ns)) n.lease second))
+indexed_back rs ms ns ks k i l n ix ei el first second =
+    let known = (know_fewer [] ks k ix.know).1 in
+    indexed_fewer rs ns ks k ix (put_both k.entry i l (last_at (entries_of ks)) (at rs) (at ms) (at ns) n ei el
+    (subst (λ (o : Option ℕ). IsPut i o (at rs) (at ms)) known.id first)
+    (subst (λ (o : Option ℕ). IsPut l o (at ms) (at ns)) (known.lease n) second))
+
+-- what stood under the id of the last entry is put back, where it has no lease
+pub indexed_id_back : (rs ns : List (Mark × ℕ)) (ks : List Kept) (k : Kept) (i : Mark) → is_no_lease k.entry.lease ≡ true → IsIndexed rs (ks ++ k ∷ []) → i ≡ id_mark k.entry
+    → IsPut i k.id_before (at rs) (at ns) → IsIndexed ns ks
+indexed_id_back rs ns ks k i n ix ei put =
+    let known = (know_fewer [] ks k ix.know).1 in
+    indexed_fewer rs ns ks k ix (put_id k.entry i (last_at (entries_of ks)) (at rs) (at ns) n ei (subst (λ (o : Option ℕ). IsPut i o (at rs) (at ns)) known.id put))
 
 -- what a look-up of an id finds
 pub id_found : (round : ℕ) (id : List ℕ) (rs : List (Mark × ℕ)) (ks : List Kept) (o : Option ℕ) → IsIndexed rs ks → o ≡ at rs (Id id) → reaches round o ≡ has_id round id (entries_of ks)

@@ -15,7 +15,7 @@ use Rattle.al_moves.specs.Accounts.{moved}
 use Rattle.al_moves.specs.Pay.{rekeyed}
 use Rattle.al_moves.specs.Minimum.{checked}
 use Rattle.al_eval.specs.declared.tail.Entry.{Entry}
-use Rattle.al_eval.specs.Past.{entry_of, has_id, lease_until}
+use Rattle.al_eval.specs.Past.{entry_of, has_id, is_no_lease, lease_until}
 use Rattle.al_eval.specs.Refusals.{Refusal, broken}
 use Rattle.al_eval.specs.Groups.{size_of, opened}
 use Rattle.al_eval.specs.Body.{Context, done_by}
@@ -32,7 +32,7 @@ id_fault round past e = if has_id round e.id past then Some (plain_rule 30) else
 
 -- the last round that a lease that is not zero is held
 abbrev pub held_until : ℕ → List Entry → Entry → Option ℕ
-held_until round past e = if same_bytes e.lease (replicate 32 0) then None else lease_until round e.sender e.lease past
+held_until round past e = if is_no_lease e.lease then None else lease_until round e.sender e.lease past
 
 -- 31: the lease is held
 abbrev pub lease_fault : ℕ → List Entry → Entry → Option Rule

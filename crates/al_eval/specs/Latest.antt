@@ -1,5 +1,5 @@
 -- The greatest last valid round under each id and each sender's lease.
-use Rattle.std.specs.Prelude.{◌≡◌, ℕ, List, [], ◌∷◌, ◌++◌, Bool, map, if◌then◌else◌, ⊤}
+use Rattle.std.specs.Prelude.{◌≡◌, ℕ, List, [], ◌∷◌, ◌++◌, Bool, false, map, if◌then◌else◌, ⊤}
 use Rattle.std.specs.declared.cmp.Ordering.{Ordering}
 use Rattle.std.specs.declared.cmp.Ordering.TheVariants.{Less, Greater}
 use Rattle.std.specs.declared.option.Option.{Option}
@@ -14,7 +14,7 @@ use Rattle.al_eval.specs.declared.latest.Mark.{Mark}
 use Rattle.al_eval.specs.declared.latest.Mark.TheVariants.{Id, Lease}
 use Rattle.al_eval.specs.declared.tail.Entry.{Entry}
 use Rattle.al_eval.specs.declared.tail.Kept.{Kept}
-use Rattle.al_eval.specs.Past.{greatest_last, holds_lease, later}
+use Rattle.al_eval.specs.Past.{greatest_last, holds_lease, is_no_lease, later}
 
 -- the order of marks: ids, then leases, each by its bytes
 abbrev pub mark_cmp : Mark → Mark → Ordering
@@ -27,7 +27,7 @@ mark_cmp (Lease s l) (Lease t m) = ordering_then (address_cmp s t) (slice_cmp na
 abbrev pub at : List (Mark × ℕ) → Mark → Option ℕ
 at rounds q = lookup (is_at (mark_cmp q)) rounds
 
--- the two marks of an entry
+-- the two marks of an entry, the second of which nothing is kept under where it has no lease
 abbrev pub id_mark : Entry → Mark
 id_mark e = Id e.id
 
@@ -53,7 +53,7 @@ entries_of ks = map (λ k. k.entry) ks
 -- what stood at an entry's marks before it
 pub record Knows (rounds : Mark → Option ℕ) (k : Kept) : Type 0 where
   pub id : k.id_before ≡ rounds (id_mark k.entry)
-  pub lease : k.lease_before ≡ rounds (lease_mark k.entry)
+  pub lease : is_no_lease k.entry.lease ≡ false → k.lease_before ≡ rounds (lease_mark k.entry)
 
 -- each entry has what stood at its marks before it, with others in front of all
 abbrev pub AllKnow : List Entry → List Kept → Type 0

@@ -1,5 +1,5 @@
 -- What a chain keeps of its transactions, by the Algorand ledger specification: an id stands in it once, and a sender's lease is held up to the greatest last valid round of its holders.
-use Rattle.std.specs.Prelude.{ℕ, List, [], ◌∷◌, Bool, false, ◌&&◌, ◌||◌, max, nat_le, if◌then◌else◌}
+use Rattle.std.specs.Prelude.{ℕ, List, [], ◌∷◌, Bool, false, not, ◌&&◌, ◌||◌, max, nat_le, replicate, if◌then◌else◌}
 use Rattle.std.specs.declared.option.Option.{Option}
 use Rattle.std.specs.declared.option.Option.TheVariants.{None, Some}
 use Rattle.al_base.specs.declared.address.Address.{Address}
@@ -37,9 +37,13 @@ abbrev pub greatest_last : (Entry → Bool) → List Entry → Option ℕ
 greatest_last test [] = None
 greatest_last test (e ∷ es) = if test e then Some (later e.last (greatest_last test es)) else greatest_last test es
 
--- whether an entry is of the sender, with the lease
+-- a lease of zeros is none
+abbrev pub is_no_lease : List ℕ → Bool
+is_no_lease lease = same_bytes lease (replicate 32 0)
+
+-- whether an entry is of the sender, with the lease, which nobody holds where it is none
 abbrev pub holds_lease : Address → List ℕ → Entry → Bool
-holds_lease sender lease e = same_address e.sender sender && same_bytes e.lease lease
+holds_lease sender lease e = not (is_no_lease e.lease) && (same_address e.sender sender && same_bytes e.lease lease)
 
 -- the last round that a sender's lease is held, none where no entry holds it
 abbrev pub held_to : Address → List ℕ → List Entry → Option ℕ

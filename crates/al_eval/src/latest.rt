@@ -1,7 +1,7 @@
 //! The greatest last valid round under each id and each sender's lease.
-ghost use Rattle.std.specs.Prelude.{◌≡◌, Some, None, IsSome, OnOk, OnErr, cond};
+ghost use Rattle.std.specs.Prelude.{◌≡◌, false, Some, None, IsSome, OnOk, OnErr, cond};
 ghost use Rattle.std.specs.BTreeMap.{is_at};
-ghost use Rattle.al_eval.specs.Past.{later};
+ghost use Rattle.al_eval.specs.Past.{is_no_lease, later};
 ghost use Rattle.al_eval.specs.Latest.{at, id_mark, lease_mark, mark_cmp, raised};
 
 use crate::Entry;
@@ -91,13 +91,16 @@ impl Latest {
         lease_before: Option<u64>,
     ) -> Result<(), AllocError>
         requires id { id_before ≡ at self.old.rounds.entries (id_mark entry.now) }
-        requires lease { lease_before ≡ at self.old.rounds.entries (lease_mark entry.now) }
+        requires lease { is_no_lease entry.now.lease ≡ false → lease_before ≡ at self.old.rounds.entries (lease_mark entry.now) }
         ensures ok { OnOk result ((q : _) → at self.new.rounds.entries q ≡ raised entry.now (at self.old.rounds.entries) q) }
         ensures err { OnErr result ((q : _) → at self.new.rounds.entries q ≡ at self.old.rounds.entries q) }
     {
         let id = entry.id_mark();
-        let lease = entry.lease_mark();
         self.raise_one(&id, entry.last, id_before)?;
+        if entry.has_no_lease() {
+            return Ok(());
+        }
+        let lease = entry.lease_mark();
         match self.raise_one(&lease, entry.last, lease_before) {
             Ok(()) => Ok(()),
             Err(refused) => {

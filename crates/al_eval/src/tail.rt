@@ -2,7 +2,7 @@
 ghost use Rattle.std.specs.Prelude.{◌≡◌, ◌++◌, ◌∷◌, ◌-◌, List, [], IfOk, OnOk, OnErr, length, map, take};
 ghost use Rattle.al_txn.specs.Ids.{txid_of};
 ghost use Rattle.al_eval.specs.declared.tail.Entry.{Entry};
-ghost use Rattle.al_eval.specs.Past.{entry_of, has_id, lease_until};
+ghost use Rattle.al_eval.specs.Past.{entry_of, has_id, is_no_lease, lease_until};
 ghost use Rattle.al_eval.specs.Latest.{Knows, at, id_mark, lease_mark};
 
 use crate::latest::{Latest, Mark};
@@ -60,6 +60,13 @@ impl Entry {
         ensures { result ≡ lease_mark self.now }
     {
         Mark::Lease(self.sender, self.lease)
+    }
+
+    /// Whether its lease is zero, which is none.
+    pub(crate) fn has_no_lease(&self) -> bool
+        ensures { result ≡ is_no_lease self.now.lease }
+    {
+        self.lease == [0; 32]
     }
 }
 
@@ -124,8 +131,10 @@ impl Tail {
     {
         if let Some(kept) = self.kept.pop() {
             self.latest.put_back(&kept.entry.id_mark(), kept.id_before);
-            self.latest
-                .put_back(&kept.entry.lease_mark(), kept.lease_before);
+            if !kept.entry.has_no_lease() {
+                self.latest
+                    .put_back(&kept.entry.lease_mark(), kept.lease_before);
+            }
         }
     }
 
@@ -195,10 +204,15 @@ fn with_before(latest: &Latest, entry: Entry) -> Kept
     ensures entry { result.entry ≡ entry }
     ensures knows { Knows (at latest.now.rounds.entries) result }
 {
+    let lease_before = if entry.has_no_lease() {
+        None
+    } else {
+        latest.last(&entry.lease_mark())
+    };
     Kept {
         entry,
         id_before: latest.last(&entry.id_mark()),
-        lease_before: latest.last(&entry.lease_mark()),
+        lease_before,
     }
 }
 

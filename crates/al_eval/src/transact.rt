@@ -9,14 +9,11 @@ ghost use Rattle.al_eval.specs.Answers.{Runs, RunsAll};
 
 use crate::group::{open, size_of};
 use crate::{Before, Entry, EvalRefusal, Tail};
-use al_base::Hash;
 use al_block::Block;
 use al_moves::{Rule, Stop, Work};
 use al_rows::RowView;
 use al_txn::{Body, Chain, Item, Txn};
 use std::alloc::Global;
-
-const NO_LEASE: Hash = [0; 32];
 
 /// Where a transaction stands.
 #[derive(Clone, Copy)]
@@ -72,7 +69,7 @@ fn later_of(a: Option<u64>, b: Option<u64>) -> Option<u64>
 fn held_until(round: u64, past: &Tail, seen: &Tail, entry: &Entry) -> Option<u64>
     ensures { result ≡ held_until round (past.now ++ seen.now) entry.now }
 {
-    if entry.lease == NO_LEASE {
+    if entry.has_no_lease() {
         return None;
     }
     later_of(

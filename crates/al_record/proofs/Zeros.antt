@@ -25,4 +25,4 @@ left_out false b = refl
 pub array_left_out : (n : ℕ) (b : List ℕ) → length b ≡ n → pointwise ◌==◌ b (replicate n 0) ≡ is_none (array_put n b)
 array_left_out n b e =
     subst (λ (m : ℕ). pointwise ◌==◌ b (replicate m 0) ≡ is_none (array_put m b)) e
-        ((zeros b ∙ ap (λ (t : Bool). t && list_all (λ (x : ℕ). x == 0) b) (sym (same_length (length b)))) ∙ left_out (is_zero_array (length b) b) b)
+    ((zeros b ∙ ap (λ (t : Bool). t && list_all (λ (x : ℕ). x == 0) b) (sym (same_length (length b)))) ∙ left_out (is_zero_array (length b) b) b)

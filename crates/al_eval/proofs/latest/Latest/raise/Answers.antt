@@ -21,5 +21,5 @@ returns-in-Err-clause-err c =
 
 pub returns-in-Ok-clause-ok : goal.returns-in-Ok-clause-ok
 returns-in-Ok-clause-ok c =
-    raised_both c.args.entry.now c.id_mark-id.result c.lease_mark-lease.result (at c.args.self.now.rounds.entries) (at c.raise_one.new.self.rounds.entries) (at c.raise_one-2.new.self.rounds.entries)
+    raised_both c.args.entry.now c.id_mark-id.result c.lease_mark-lease.result (at c.args.self.now.rounds.entries) (at c.raise_one.new.self.rounds.entries) (at c.raise_one-2.new.self.rounds.entries) (sym c.has_no_lease.ensures)
     c.id_mark-id.ensures c.lease_mark-lease.ensures c.in_ok-raise_one.ensures.ok c.in-Ok.ensures.ok
