@@ -1,5 +1,5 @@
 -- A record shows that what it says is in its ranges.
-use Rattle.std.proofs.Common.{◌≡◌, ◌≤◌, ◌<◌, ◌^◌, ◌&&◌, ℕ, Bool, true, false, nat_le, is_some, List, [], ◌∷◌, length, Option, Some, None, refl, sym, subst}
+use Rattle.std.proofs.Common.{◌≡◌, ◌≤◌, ◌&&◌, ℕ, Bool, true, false, nat_le, is_some, List, [], ◌∷◌, length, Option, Some, None, refl, sym, subst}
 use Rattle.std.proofs.lemmas.Bool.{and_parts, leb-true}
 use Rattle.al_base.specs.declared.key.Key.{Key}
 use Rattle.al_base.specs.declared.key.Key.TheVariants as key
@@ -13,10 +13,9 @@ use Rattle.al_rows.specs.Rows.{AccountInRange, InRange, IsKept, LocalInRange, Pa
 use Rattle.al_rows.specs.declared.account.AccountRow.{AccountRow}
 use Rattle.al_rows.specs.declared.row.AppParams.{AppParams}
 use Rattle.al_rows.specs.declared.row.Local.{Local}
-use Rattle.al_rows.specs.declared.row.BoxRow.{BoxRow}
 use Rattle.al_rows.specs.declared.row.Row.{Row}
 use Rattle.al_rows.specs.declared.row.Row.TheVariants as row
-use Rattle.al_row_records.specs.Tables.{account, account_fields, app, app_fields, box, box_fields}
+use Rattle.al_row_records.specs.Tables.{account_fields, app, app_fields, box_fields}
 use Rattle.al_row_records.specs.RowRecords.{FitsKey, FitsRow, IsRow, row_written}
 use Rattle.al_row_records.proofs.PartsShown.{app_row, app_rises, app_table}
 use Rattle.al_row_records.proofs.Same.{Under, no_row}

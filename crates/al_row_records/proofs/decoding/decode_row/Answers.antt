@@ -1,4 +1,4 @@
-use Rattle.std.proofs.Common.{◌<◌, ◌^◌, ℕ, List, Ok, Err, length, arith}
+use Rattle.std.proofs.Common.{Ok, Err, arith}
 use Rattle.al_msgpack.proofs.Exact.{Fit}
 use Rattle.al_msgpack.proofs.Sizes.{limit}
 use Rattle.al_msgpack.proofs.Verdicts.{bytes_fit}
