@@ -45,6 +45,7 @@ pub fn is_held(rows: &BTreeMap<Key, Held>, key: &Key) -> bool
 }
 
 /// The account that is held.
+#[inline(always)]
 pub fn account_held(rows: &BTreeMap<Key, Held>, who: &Address) -> Option<AccountRow>
     requires { (q : Key) → IfSome (at rows.now.entries q) (λ h. IfSome h.row (InRange q)) }
     ensures value { result ≡ option_map account_in (at (nows rows.now.entries) (Key.Account who.now)) }
@@ -73,6 +74,7 @@ pub fn row_held(
 }
 
 // Puts a row in place of the one that is held under a key.
+#[inline(always)]
 fn replace(
     rows: &mut BTreeMap<Key, Held>,
     key: &Key,
@@ -134,6 +136,7 @@ fn keep(
 }
 
 // Sets the row of a key that is held, and keeps what stood there when the transaction began.
+#[inline(always)]
 fn set_held(
     rows: &mut BTreeMap<Key, Held>,
     started: &mut Vec<(Key, Option<Row>)>,
@@ -212,6 +215,7 @@ pub fn viewed<V: RowView>(view: &mut V, key: &Key) -> Result<Option<Row>, Stop<V
 }
 
 // Sets the row of a key that is not held, and holds what the view has there.
+#[inline(never)]
 fn set_viewed<V: RowView>(
     alloc: Global,
     view: &mut V,
@@ -265,6 +269,7 @@ pub fn set_row<V: RowView>(
 }
 
 /// Holds the row of an account that is not held, and gives the account.
+#[inline(never)]
 pub fn hold_account<V: RowView>(
     alloc: Global,
     view: &mut V,

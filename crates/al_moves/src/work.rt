@@ -160,6 +160,7 @@ impl<V: RowView> Work<V> {
 
 impl<V: RowView> Work<V> {
     // The account with its pending rewards given to it.
+    #[inline(always)]
     fn credited(&mut self, who: &Address) -> Result<AccountRow, Stop<V::Fault>>
         ensures looks { Looks V.tells self.old self.new result }
         ensures value { V.tells ≡ true → IfOk result (λ r. r ≡ credited self.old.level (account self.old.now who.now)) }
@@ -170,6 +171,7 @@ impl<V: RowView> Work<V> {
     }
 
     // Puts an account, unless its balance passes the most.
+    #[inline(always)]
     fn put_account(&mut self, who: &Address, r: AccountRow) -> Result<(), Stop<V::Fault>>
         requires { CountsInRange r }
         ensures { Does V.tells (put_account self.old.now who.now r) self.old self.new result }
@@ -233,6 +235,7 @@ impl<V: RowView> Work<V> {
     }
 
     // The account, a missing one being the zero row.
+    #[inline(always)]
     fn account(&mut self, who: &Address) -> Result<AccountRow, Stop<V::Fault>>
         ensures looks { Looks V.tells self.old self.new result }
         ensures value { V.tells ≡ true → IfOk result (λ r. r ≡ account self.old.now who.now) }
@@ -336,6 +339,7 @@ fn has_no_counts(r: &AccountRow) -> bool
 }
 
 // An account with its pending rewards given to it.
+#[inline(always)]
 fn credited(level: u64, r: AccountRow) -> AccountRow
     requires { AccountInRange r }
     ensures value { result ≡ credited level r }
@@ -410,6 +414,7 @@ fn changes(alloc: Global, rows: BTreeMap<Key, Held>) -> Result<Changes, AllocErr
 }
 
 // A zero row is no row.
+#[inline(always)]
 fn nonzero(key: &Key, row: Option<Row>) -> Option<Row>
     requires { IfSome row (InRange key.now) }
     ensures value { result ≡ nonzero row }

@@ -128,7 +128,7 @@ eval_posts : (o s : State) (blocks : List Block) (body : List ℕ) (b : Block) (
 eval_posts o s blocks body b (evals.Broken place rule) is next built due = next_posts o s blocks body b true _ is next (judged_step (length blocks) s b next.prev built ∙ ap (refused (length blocks)) due.0)
 eval_posts o s blocks body b (evals.Header field) is next built due = next_posts o s blocks body b true _ is next (judged_step (length blocks) s b next.prev built ∙ ap (refused (length blocks)) due.0)
 eval_posts o s blocks body b (evals.PoolShort pool owed) is next built due = next_posts o s blocks body b true _ is next (judged_step (length blocks) s b next.prev built ∙ ap (refused (length blocks)) due.0)
-eval_posts o s blocks body b (evals.View never) is next built due = absurd due
+eval_posts o s blocks body b (evals.View never) is next built due = inr refl
 eval_posts o s blocks body b evals.Memory is next built due = absurd due
 
 outside : (blocks : List Block) (next front : ℕ) → next ≡ suc (length blocks) → front ≡ length blocks → answers.Refused 409 errors.WrongRound (record nothing { front = Some front; next = Some next }) ≡ wrong_round (length blocks)
@@ -209,5 +209,5 @@ pub step_refused : (o s : State) (blocks : List Block) (body : List ℕ) (b : Bl
 step_refused o s blocks body b front (evals.Broken place rule) is next built due f = (b, is, (s, next, built, due, f))
 step_refused o s blocks body b front (evals.Header field) is next built due f = (b, is, (s, next, built, due, f))
 step_refused o s blocks body b front (evals.PoolShort pool owed) is next built due f = (b, is, (s, next, built, due, f))
-step_refused o s blocks body b front (evals.View never) is next built due f = absurd never
+step_refused o s blocks body b front (evals.View never) is next built due f = (b, is, (s, next, built, due, f))
 step_refused o s blocks body b front evals.Memory is next built due f = tt

@@ -13,7 +13,7 @@ use Rattle.al_rows.specs.Rows.{same_bytes}
 use Rattle.al_rows.specs.declared.view.Never.{Never}
 use Rattle.al_eval.specs.declared.before.EvalRefusal.{EvalRefusal}
 use Rattle.al_eval.specs.declared.before.EvalRefusal.TheVariants as evals
-use Rattle.al_eval.specs.Refusals.{Verdict, refused, refusal_of}
+use Rattle.al_eval.specs.Refusals.{Verdict, refused, failed, no_memory, refusal_of}
 use Rattle.al_eval.specs.Sound.{MayCome}
 use Rattle.al_eval.specs.State.{State, replay, step}
 use Rattle.al_http.specs.declared.answer.Answer.{Answer}
@@ -37,10 +37,11 @@ pub record IsNext (o : State) (blocks : List Block) (b : Block) (continues : Boo
 abbrev pub IsFork : List Block → List ℕ → ℕ → List ℕ → Type 0
 IsFork blocks body round hash = (kept : Block) × IsBlockOf blocks round kept × (IsBlock body kept → ⊥) × (hash ≡ header_hash_of kept.header)
 
--- the step refuses the block, by what a sound state can come to
+-- the step refuses the block, by what a sound state can come to; its view never fails
 abbrev pub IsBroken : State → Block → Verdict → Type 0
 IsBroken s b (refused r) = (step s b ≡ Err r) × MayCome r
-IsBroken s b v = ⊥
+IsBroken s b failed = ⊤
+IsBroken s b no_memory = ⊥
 
 -- why a block is refused
 abbrev pub Refuses : State → List Block → List ℕ → Block → AcceptRefusal → Type 0
