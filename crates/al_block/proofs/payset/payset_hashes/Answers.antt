@@ -21,4 +21,4 @@ whole old mid new n xs ys none counts same headed valued =
 
 pub returns-clause-payset : goal.returns-clause-payset
 returns-clause-payset c =
-    c.digest-payset.ensures.value ∙ ap (digest_of prefixes.Payset) (c.as_slice-2.ensures.value ∙ whole c.new-bytes.result.items c.write_list_head.new.out.items c.write_items.new.out.items c.len.result c.args.b.now.items c.as_slice.result.now c.new-bytes.ensures.items c.len.ensures c.as_slice.ensures c.in_ok-write_list_head.ensures.bytes c.in_ok-ids.ensures.bytes)
+    c.digest-payset.ensures.value ∙ ap (digest_of prefixes.Payset) (c.as_slice-2.ensures.value ∙ whole _ c.write_list_head.new.out.items c.write_items.new.out.items c.len-2.result c.args.b.now.items c.as_slice.result.now c.in_ok-bytes.ensures.items c.len-2.ensures c.as_slice.ensures c.in_ok-write_list_head.ensures.bytes c.in_ok-ids.ensures.bytes)
