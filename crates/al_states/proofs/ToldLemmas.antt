@@ -43,7 +43,7 @@ use Rattle.al_states.specs.Accepting.{Accepts, IsBroken, IsNext, IsRefused, acce
 use Rattle.al_states.specs.Built.{is_built}
 use Rattle.al_states.specs.Held.{Held}
 use Rattle.al_states.specs.Looking.{Looks, look_answer, row_answer}
-use Rattle.al_states.specs.Replies.{account_answer, account_of, looked, too_new, wrong_round, Replies, Posts, IsRepeated, IsAnswered, judged, refused, taken, fork, wrong_prev, not_built, undecodable}
+use Rattle.al_states.specs.Replies.{account_answer, account_of, looked, too_new, wrong_round, Replies, Posts, IsRepeated, IsAnswered, judged, refused, taken, fork, wrong_prev, not_built}
 
 when_false : {A : Type 0} (b : Bool) (x y : A) → b ≡ false → (if b then x else y) ≡ y
 when_false true x y e = absurd cc

@@ -1,7 +1,7 @@
 use Rattle.std.proofs.Common.{◌≡◌, ◌∙◌, ap, List, ℕ, Option, sym, subst, IsSome}
 use Rattle.al_eval.specs.declared.latest.Mark.{Mark}
 use Rattle.al_eval.specs.Latest.{at}
-use Rattle.al_eval.proofs.Marks.{IsPut, put_there, put_undone, raised_both}
+use Rattle.al_eval.proofs.Marks.{IsPut, put_there, put_undone, raised_both, raised_id}
 use Rattle.al_eval.proofs.latest.Latest.raise.Goals as goal
 
 pub put_back-requires : goal.put_back-requires
@@ -21,5 +21,9 @@ returns-in-Err-clause-err c =
 
 pub returns-in-Ok-clause-ok : goal.returns-in-Ok-clause-ok
 returns-in-Ok-clause-ok c =
-    raised_both c.args.entry.now c.id_mark-id.result c.lease_mark-lease.result (at c.args.self.now.rounds.entries) (at c.raise_one.new.self.rounds.entries) (at c.raise_one-2.new.self.rounds.entries) (sym c.has_no_lease.ensures)
+    raised_both c.args.entry.now c.id_mark-id.result c.lease_mark-lease.result (at c.args.self.now.rounds.entries) (at c.raise_one.new.self.rounds.entries) (at c.raise_one-2.new.self.rounds.entries) (sym c.has_no_lease.ensures ∙ c.if-has_no_lease.false)
     c.id_mark-id.ensures c.lease_mark-lease.ensures c.in_ok-raise_one.ensures.ok c.in-Ok.ensures.ok
+
+pub returns-then-has_no_lease-clause-ok : goal.returns-then-has_no_lease-clause-ok
+returns-then-has_no_lease-clause-ok c =
+    raised_id c.args.entry.now c.id_mark-id.result (at c.args.self.now.rounds.entries) (at c.raise_one.new.self.rounds.entries) (sym c.has_no_lease.ensures ∙ c.if-has_no_lease.true) c.id_mark-id.ensures c.in_ok-raise_one.ensures.ok
