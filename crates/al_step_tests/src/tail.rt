@@ -1,12 +1,23 @@
 ghost use Rattle.std.specs.Prelude.{◌<◌};
 
-use crate::eval::{BLOCK, ID};
 use al_base::{Address, Hash};
 use al_block::decode_block;
 use al_eval::{Entry, Tail};
 use std::test::*;
 
 const NO_LEASE: Hash = [0; 32];
+
+const LEASE: Hash = [5; 32];
+
+/// The block with one payment, to which a lease is given.
+const LEASED: &[u8; 410] =
+    b"\x82\xa1b\x88\xa4fees\xc4 \x01\x01\x01\x01\x01\x01\x01\x01\x01\x01\x01\x01\x01\x01\x01\x01\x01\x01\x01\x01\x01\x01\x01\x01\x01\x01\x01\x01\x01\x01\x01\x01\xa2gh\xc4 fr8\xd2aW]\xdb\x91\xa6r\x1bG\x8b\x17\xefo\xf04\xf0\xa1\xa0x?\xe3R\xddd\xb0\xa0\xf3)\xa4prev\xc4 H\xe7\xfaD\xbe\xa4\xc1\x8aERa\xc9\xc0\xa3H\xe9_\xfc\xbe\xd6\x01\xa1\xc9)|m\xea\xc7!d\x8a\xff\xa3rnd\x01\xa6rwcalr\xce\x00\x07\xa1!\xa3rwd\xc4 \x02\x02\x02\x02\x02\x02\x02\x02\x02\x02\x02\x02\x02\x02\x02\x02\x02\x02\x02\x02\x02\x02\x02\x02\x02\x02\x02\x02\x02\x02\x02\x02\xa2tc\x01\xa3txn\xc4 \xee|\xcd\x01\xf0\x0d\xa7+F\xa4\x90\xb6\x9b\xf5f\xfd\xd9\x22\xb5\xe1\x8d\xa1\xf7\xd1L\xa3\xe4\xef\x10\x82\xd4\xb6\xa1t\x91\x81\xa3txn\x89\xa3amt\xce\x00\x04\x93\xe0\xa3fee\xcd\x03\xe8\xa2fv\x01\xa2gh\xc4 fr8\xd2aW]\xdb\x91\xa6r\x1bG\x8b\x17\xefo\xf04\xf0\xa1\xa0x?\xe3R\xddd\xb0\xa0\xf3)\xa2lv\xcd\x03\xe8\xa2lx\xc4 \x05\x05\x05\x05\x05\x05\x05\x05\x05\x05\x05\x05\x05\x05\x05\x05\x05\x05\x05\x05\x05\x05\x05\x05\x05\x05\x05\x05\x05\x05\x05\x05\xa3rcv\xc4 \x04\x04\x04\x04\x04\x04\x04\x04\x04\x04\x04\x04\x04\x04\x04\x04\x04\x04\x04\x04\x04\x04\x04\x04\x04\x04\x04\x04\x04\x04\x04\x04\xa3snd\xc4 \x03\x03\x03\x03\x03\x03\x03\x03\x03\x03\x03\x03\x03\x03\x03\x03\x03\x03\x03\x03\x03\x03\x03\x03\x03\x03\x03\x03\x03\x03\x03\x03\xa4type\xa3pay";
+
+/// The id of that payment: SHA-512/256 of `TX` and its spelling.
+const LEASED_ID: Hash = [
+    143, 20, 45, 110, 109, 84, 232, 249, 140, 72, 190, 126, 17, 247, 125, 59, 117, 204, 218, 180,
+    112, 214, 185, 237, 243, 133, 251, 172, 62, 8, 116, 5,
+];
 
 /// The bytes of an id, of a sender and of a lease, and the last round. The second holds the lease
 /// of the first longer, and the third not as long.
@@ -65,30 +76,32 @@ fn a_look_up_gives_the_greatest_last_round(rt: HostRuntime) -> Result<(), Fail> 
     Ok(())
 }
 
-// Whether the payment of the block is found up to a round, and its sender's lease held up to it.
+// Whether the payment of the block is found up to a round, and its sender's lease held up to
+// another, and the zero lease by nobody.
 fn is_up_to(tail: &Tail, id_last: u64, lease_last: u64) -> bool
     requires { id_last < 10000 }
 {
     let sender = Address([3; 32]);
-    tail.has_id(id_last, &ID)
-        && !tail.has_id(id_last + 1, &ID)
-        && tail.lease_until(1, &sender, &NO_LEASE) == Some(lease_last)
+    tail.has_id(id_last, &LEASED_ID)
+        && !tail.has_id(id_last + 1, &LEASED_ID)
+        && tail.lease_until(1, &sender, &LEASE) == Some(lease_last)
+        && tail.lease_until(1, &sender, &NO_LEASE).is_none()
 }
 
 #[test]
 fn a_block_that_is_taken_back_gives_back_earlier_rounds(rt: HostRuntime) -> Result<(), Fail> {
-    let block = decode_block(rt.alloc(), BLOCK)?;
+    let block = decode_block(rt.alloc(), LEASED)?;
     let mut tail = Tail::new(rt.alloc());
     tail.push(Entry {
-        id: ID,
+        id: LEASED_ID,
         sender: Address([3; 32]),
-        lease: NO_LEASE,
+        lease: LEASE,
         last: 300,
     })?;
     tail.push(Entry {
         id: [9; 32],
         sender: Address([3; 32]),
-        lease: NO_LEASE,
+        lease: LEASE,
         last: 500,
     })?;
     assert!(rt; is_up_to(&tail, 300, 500));
