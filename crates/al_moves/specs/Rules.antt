@@ -26,6 +26,9 @@ too_few number has needs = record (plain_rule number) { has = Some has; needs = 
 abbrev pub of_account : ℕ → Address → Rule
 of_account number who = record (plain_rule number) { who = Some who }
 
+abbrev pub of_id : ℕ → ℕ → Rule
+of_id number id = record (plain_rule number) { id = Some id }
+
 abbrev pub held_until : ℕ → ℕ → Rule
 held_until number until = record (plain_rule number) { until = Some until }
 

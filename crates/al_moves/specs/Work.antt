@@ -61,6 +61,13 @@ pub record Does {F T : Type 0} (tells : Bool) (due : Result RowMap Rule) (old ne
   pub starts : tells ≡ true → Starts result old new
   pub cause : IsCounted result old.failures new.failures
 
+-- the same, where the rows before the block are as this asks
+pub record DoesWhere {F T} (tells : Bool) (asks : Type 0) (due : Result RowMap Rule) (old new : Worked) (result : Result T (Stop F)) : Type 0 where
+  pub fixed : IsFixed tells old new
+  pub gives : tells ≡ true → asks → Gives due result new.now
+  pub starts : tells ≡ true → Starts result old new
+  pub cause : IsCounted result old.failures new.failures
+
 -- a look-up never is a rule
 abbrev pub IsNoRule : {F T : Type 0} → Result T (Stop F) → Type 0
 IsNoRule (Ok x) = ⊤

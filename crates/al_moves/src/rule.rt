@@ -1,6 +1,6 @@
 //! The rules that refuse, with what they keep.
 ghost use Rattle.std.specs.Prelude.{◌≡◌, ℕ};
-ghost use Rattle.al_moves.specs.Rules.{held_until, of_account, plain_rule, too_few, too_little};
+ghost use Rattle.al_moves.specs.Rules.{held_until, of_account, of_id, plain_rule, too_few, too_little};
 
 use al_base::Address;
 use std::alloc::AllocError;
@@ -88,6 +88,16 @@ impl Rule {
     {
         Rule {
             who: Some(*who),
+            ..Rule::plain(number)
+        }
+    }
+
+    /// A rule that an asset or an application breaks.
+    pub fn of_id(number: u64, id: u64) -> Rule
+        ensures { result ≡ of_id number id }
+    {
+        Rule {
+            id: Some(id),
             ..Rule::plain(number)
         }
     }

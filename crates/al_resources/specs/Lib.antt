@@ -1,0 +1,3 @@
+pub mod Assets
+pub mod Sound
+pub mod Kept

@@ -1,0 +1,6 @@
+//! What transactions make of assets: their parameters and their holdings.
+#![tactic(auto)]
+
+mod asset;
+
+pub use asset::Issued;
