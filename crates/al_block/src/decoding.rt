@@ -14,7 +14,7 @@ use al_record::{Fault, ReadError, encode_record, range, read_member};
 use std::alloc::{AllocError, Global};
 
 /// The most bytes of a block's spelling.
-const MOST_BYTES: usize = 5_242_880;
+pub const MOST_BYTES: usize = 5_242_880;
 
 /// Why an input is no block.
 #[derive(Debug, Drop)]

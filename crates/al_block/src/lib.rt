@@ -16,7 +16,7 @@ mod payset;
 mod ranges;
 
 pub use block::Block;
-pub use decoding::{BlockFault, decode_block, encode_block};
+pub use decoding::{BlockFault, MOST_BYTES, decode_block, encode_block};
 pub use hashing::{group_end, header_hash, payset_hash};
 pub use header::{Field, Header};
 pub use header_record::read_header;

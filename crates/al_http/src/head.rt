@@ -5,6 +5,7 @@ ghost use Rattle.al_http.specs.Limits.{most_head};
 
 use crate::fields::{closes, is_bare, size_of};
 use al_base::Bytes;
+use al_block::MOST_BYTES;
 use http::Method;
 use http::method::MethodError;
 use httparse::Status;
@@ -18,7 +19,7 @@ pub const MOST_HEAD: usize = 16_384;
 pub const MOST_FIELDS: usize = 64;
 
 /// The most bytes of a body, which are those of a block.
-pub const MOST_BODY: u64 = 5_242_880;
+pub const MOST_BODY: u64 = MOST_BYTES as u64;
 
 /// How long a body is, by the fields of its head.
 #[derive(Clone, Copy, Debug, PartialEq, Eq)]

@@ -4,6 +4,7 @@ use Rattle.al_base.specs.declared.key.Key.{Key}
 use Rattle.al_msgpack.specs.declared.val.Val.TheVariants as values
 use Rattle.al_msgpack.specs.Spelled.{spelled}
 use Rattle.al_bodies.specs.Ranges.{IsArray, IsBetween, ParamsRanges}
+use Rattle.al_rows.specs.Limits.{max_balance}
 use Rattle.al_rows.specs.Rows.{CountsInRange, is_zero}
 use Rattle.al_rows.specs.declared.account.AccountRow.{AccountRow}
 use Rattle.al_rows.specs.declared.row.Holding.{Holding}
@@ -15,7 +16,7 @@ use Rattle.al_rows.specs.declared.row.Row.TheVariants as row
 use Rattle.al_row_records.specs.RowRecords.{is_of, row_written, IsRow}
 
 pub record AccountRanges (r : AccountRow) : Type 0 where
-  pub balance : r.balance ≤ 10000000000000000
+  pub balance : r.balance ≤ max_balance
   pub base : r.base < 2 ^ 64
   pub auth : IsArray 32 r.auth.0
   pub vote : IsArray 32 r.vote

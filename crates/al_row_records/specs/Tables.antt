@@ -1,5 +1,5 @@
 -- The records of rows: the fields of each kind.
-use Rattle.std.specs.Prelude.{◌==◌, ◌++◌, ◌^◌, ℕ, Bool, false, is_some, map, replicate, codes, List, [], ◌∷◌, Option, Some, None, if◌then◌else◌}
+use Rattle.std.specs.Prelude.{◌==◌, ◌++◌, ℕ, Bool, false, is_some, map, replicate, codes, List, [], ◌∷◌, Option, Some, None, if◌then◌else◌}
 use Rattle.al_base.specs.declared.account.Status.{Status}
 use Rattle.al_base.specs.declared.account.Status.TheVariants.{Offline, Online, NotParticipating}
 use Rattle.al_base.specs.declared.asset.AssetParams.{AssetParams}
@@ -8,6 +8,7 @@ use Rattle.al_record.specs.declared.fault.Fault.{Fault}
 use Rattle.al_record.specs.Columns.{FieldOf, Format, Rule, number, up_to, flag, bytes, array, entries, flag_of, rules_of, table, value_at}
 use Rattle.al_record.specs.Kinds.{by_name, kind_fault, number_kind, on}
 use Rattle.al_bodies.specs.Bodies.{params_fields}
+use Rattle.al_rows.specs.Limits.{max_balance, max_count}
 use Rattle.al_rows.specs.Rows.{no_address}
 use Rattle.al_rows.specs.declared.account.AccountRow.{AccountRow}
 use Rattle.al_rows.specs.declared.row.Holding.{Holding}
@@ -28,7 +29,7 @@ status_number NotParticipating = 2
 abbrev pub account_fields : List (FieldOf AccountRow)
 account_fields =
     up_to (codes "a") 2 (λ r. status_number r.status) ∷
-    up_to (codes "b") 10000000000000000 (λ r. r.balance) ∷
+    up_to (codes "b") max_balance (λ r. r.balance) ∷
     number (codes "c") (λ r. r.base) ∷
     array (codes "d") 32 (λ r. r.auth.0) ∷
     array (codes "e") 32 (λ r. r.vote) ∷
@@ -37,15 +38,15 @@ account_fields =
     number (codes "h") (λ r. r.first) ∷
     number (codes "i") (λ r. r.last) ∷
     number (codes "j") (λ r. r.dilution) ∷
-    up_to (codes "k") (2 ^ 40) (λ r. r.assets_held) ∷
-    up_to (codes "l") (2 ^ 40) (λ r. r.assets_created) ∷
-    up_to (codes "m") (2 ^ 40) (λ r. r.apps_created) ∷
-    up_to (codes "n") (2 ^ 40) (λ r. r.apps_opted) ∷
-    up_to (codes "o") (2 ^ 40) (λ r. r.extra_pages) ∷
-    up_to (codes "p") (2 ^ 40) (λ r. r.uints) ∷
-    up_to (codes "q") (2 ^ 40) (λ r. r.byte_slices) ∷
-    up_to (codes "r") (2 ^ 40) (λ r. r.boxes) ∷
-    up_to (codes "s") (2 ^ 40) (λ r. r.box_bytes) ∷
+    up_to (codes "k") max_count (λ r. r.assets_held) ∷
+    up_to (codes "l") max_count (λ r. r.assets_created) ∷
+    up_to (codes "m") max_count (λ r. r.apps_created) ∷
+    up_to (codes "n") max_count (λ r. r.apps_opted) ∷
+    up_to (codes "o") max_count (λ r. r.extra_pages) ∷
+    up_to (codes "p") max_count (λ r. r.uints) ∷
+    up_to (codes "q") max_count (λ r. r.byte_slices) ∷
+    up_to (codes "r") max_count (λ r. r.boxes) ∷
+    up_to (codes "s") max_count (λ r. r.box_bytes) ∷
     []
 
 abbrev pub account : Format AccountRow

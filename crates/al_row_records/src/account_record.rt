@@ -10,20 +10,15 @@ ghost use Rattle.al_row_records.specs.Tables.{account, account_fields, status_nu
 use al_base::{Address, Status};
 use al_msgpack::Entry;
 use al_record::{Column, Content, HASH, ReadError, Shape, array, check, number, write_listed};
-use al_rows::AccountRow;
+use al_rows::{AccountRow, MAX_BALANCE, MAX_COUNT};
 use std::alloc::{AllocError, Global};
 
-/// A number of at most 2^40, as each count of an account is.
-const FEW: Shape = Shape::UpTo { most: 1 << 40 };
+/// A count of an account.
+const FEW: Shape = Shape::UpTo { most: MAX_COUNT };
 
 const ACCOUNT: [Column; 19] = [
     Column("a", Shape::UpTo { most: 2 }),
-    Column(
-        "b",
-        Shape::UpTo {
-            most: 10_000_000_000_000_000,
-        },
-    ),
+    Column("b", Shape::UpTo { most: MAX_BALANCE }),
     Column("c", Shape::Number),
     Column("d", HASH),
     Column("e", HASH),
