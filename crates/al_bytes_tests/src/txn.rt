@@ -1,7 +1,12 @@
-//! Tests of al_bodies and al_txn: ids, first faults, and each type and effect read and written back.
+//! Tests of al_bodies and al_txn: ids, first faults, each type and effect read and written
+//! back, and the form rules of calls.
+use al_base::{Address, Bytes, Special};
 use al_msgpack::decode;
 use al_record::Record;
-use al_txn::{Body, ItemFault, Pay, decode_item, encode_txn, group_id, txid};
+use al_txn::{
+    Body, Chain, Ill, ItemFault, Pay, decode_item, encode_txn, group_id, txid, well_formed,
+};
+use std::alloc::{AllocError, Global};
 use std::test::*;
 
 /// A payment of 300,000 microAlgos from the address of bytes 3 to that of bytes 4.
@@ -140,6 +145,89 @@ fn read_and_written_back(rt: HostRuntime) -> Result<(), Fail> {
         let mut out = Vec::new(rt.alloc());
         item.write(&mut out)?;
         assert_eq!(rt; out.as_slice(), input);
+    }
+    Ok(())
+}
+
+/// The rest of a call behind its application: the fields that all types share, and the type.
+const CALL: &[u8; 100] =
+    b"\xa3fee\xcd\x03\xe8\xa2fv\x01\xa2gh\xc4 \x05\x05\x05\x05\x05\x05\x05\x05\x05\x05\x05\x05\x05\x05\x05\x05\x05\x05\x05\x05\x05\x05\x05\x05\x05\x05\x05\x05\x05\x05\x05\x05\xa2lv\x0a\xa3snd\xc4 \x03\x03\x03\x03\x03\x03\x03\x03\x03\x03\x03\x03\x03\x03\x03\x03\x03\x03\x03\x03\x03\x03\x03\x03\x03\x03\x03\x03\x03\x03\x03\x03\xa4type\xa4appl";
+
+/// The entry of a call of an application, 0 for none, with this list of effects.
+fn call(alloc: Global, app: u8, effects: &[u8]) -> Result<Vec<u8>, AllocError> {
+    let mut entry = Vec::new(alloc);
+    if effects.is_empty() {
+        entry.push(0x81)?;
+    } else {
+        entry.extend_from_slice(b"\x82\xa2fx")?;
+        entry.extend_from_slice(effects)?;
+    }
+    entry.extend_from_slice(b"\xa3txn")?;
+    if app == 0 {
+        entry.push(0x86)?;
+    } else {
+        entry.extend_from_slice(b"\x87\xa4apid")?;
+        entry.push(app)?;
+    }
+    entry.extend_from_slice(CALL)?;
+    Ok(entry)
+}
+
+#[test]
+fn form_rules_of_calls(rt: HostRuntime) -> Result<(), Fail> {
+    let chain = Chain {
+        special: Special {
+            sink: Address([1; 32]),
+            pool: Address([2; 32]),
+        },
+        hash: [5; 32],
+        id: Bytes::of(rt.alloc(), b"chain")?,
+        interval: 1,
+        catch_interval: 0,
+    };
+    // Each application and list of effects with the rule that the call breaks.
+    let cases: [(u8, &[u8], Option<u64>); 10] = [
+        (0, b"", None),
+        (9, b"", None),
+        (
+            0,
+            b"\x92\x81\xa1e\x01\x82\xa1e\x09\xa1t\x82\xa3amt\x01\xa4type\xa3pay",
+            None,
+        ),
+        (
+            9,
+            b"\x92\x81\xa1e\x03\x82\xa1e\x09\xa1t\x83\xa4aamt\x01\xa4type\xa5axfer\xa4xaid\x05",
+            None,
+        ),
+        (0, b"\x93\x81\xa1e\x01\x81\xa1e\x03\x81\xa1e\x01", Some(23)),
+        (9, b"\x91\x81\xa1e\x01", Some(23)),
+        (0, b"\x91\x81\xa1e\x03", Some(23)),
+        (
+            9,
+            b"\x91\x82\xa1e\x09\xa1t\x82\xa4aamt\x01\xa4type\xa5axfer",
+            Some(24),
+        ),
+        (
+            9,
+            b"\x92\x82\xa1e\x09\xa1t\x82\xa3amt\x01\xa4type\xa3pay\x82\xa1e\x09\xa1t\x84\xa6aclose\xc4 \x01\x01\x01\x01\x01\x01\x01\x01\x01\x01\x01\x01\x01\x01\x01\x01\x01\x01\x01\x01\x01\x01\x01\x01\x01\x01\x01\x01\x01\x01\x01\x01\xa4asnd\xc4 \x03\x03\x03\x03\x03\x03\x03\x03\x03\x03\x03\x03\x03\x03\x03\x03\x03\x03\x03\x03\x03\x03\x03\x03\x03\x03\x03\x03\x03\x03\x03\x03\xa4type\xa5axfer\xa4xaid\x05",
+            Some(24),
+        ),
+        (
+            9,
+            b"\x92\x81\xa1e\x01\x82\xa1e\x09\xa1t\x82\xa4aamt\x01\xa4type\xa5axfer",
+            Some(23),
+        ),
+    ];
+    for (app, effects, rule) in cases {
+        let entry = call(rt.alloc(), app, effects)?;
+        assert!(rt; entry.len() < 1000);
+        let value = decode(rt.alloc(), entry.as_slice())?;
+        let item = decode_item(rt.alloc(), &value)?;
+        let broken = match well_formed(&item, &chain) {
+            Ok(()) => None,
+            Err(Ill { number }) => Some(number),
+        };
+        assert_eq!(rt; broken, rule);
     }
     Ok(())
 }

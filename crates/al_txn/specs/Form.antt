@@ -4,7 +4,8 @@ use Rattle.std.specs.declared.option.Option.{Option}
 use Rattle.std.specs.declared.option.Option.TheVariants.{None, Some}
 use Rattle.std.specs.declared.result.Result.{Result}
 use Rattle.std.specs.declared.result.Result.TheVariants.{Ok, Err}
-use Rattle.std.specs.Option.{option_or}
+use Rattle.std.specs.Option.{option_or, is_some}
+use Rattle.std.specs.List.{list_any}
 use Rattle.std.specs.Cmp.Lexicographic.{pointwise}
 use Rattle.al_base.specs.declared.address.Address.{Address}
 use Rattle.al_bodies.specs.declared.body.KeyReg.{KeyReg}
@@ -13,6 +14,9 @@ use Rattle.al_bodies.specs.declared.body.AssetMove.{AssetMove}
 use Rattle.al_bodies.specs.declared.body.Freeze.{Freeze}
 use Rattle.al_bodies.specs.declared.body.Body.{Body}
 use Rattle.al_bodies.specs.declared.body.Body.TheVariants as body
+use Rattle.al_bodies.specs.declared.effect.Effect.{Effect}
+use Rattle.al_bodies.specs.declared.effect.Effect.TheVariants as effect
+use Rattle.al_bodies.specs.declared.effect.Inner.TheVariants as inner
 use Rattle.al_txn.specs.declared.chain.Chain.{Chain}
 use Rattle.al_txn.specs.declared.txn.Txn.{Txn}
 use Rattle.al_txn.specs.declared.txn.Item.{Item}
@@ -78,21 +82,40 @@ config_tests c =
 unfoldable pub freeze_tests : Freeze → List (ℕ × Bool)
 freeze_tests f = (21, nat_eq f.asset 0) ∷ (22, not (is_given f.account)) ∷ []
 
-abbrev pub tests_of : Txn → Body → List (ℕ × Bool)
-tests_of t (body.Pay p) = (9, address_eq p.close t.sender) ∷ []
-tests_of t (body.KeyReg k) = keyreg_tests k t.last
-tests_of t (body.Config c) = config_tests c
-tests_of t (body.Move m) = move_tests m
-tests_of t (body.Freeze f) = freeze_tests f
-tests_of t (body.App a) = []
+-- an effect that creates an application
+abbrev pub creates : Effect → Bool
+creates (effect.Create uints slices local_uints local_slices pages state) = true
+creates e = false
 
--- the tests of the body
-unfoldable pub body_tests : Txn → List (ℕ × Bool)
-body_tests t = tests_of t t.body
+-- of a call of an application, 0 for none: an effect that creates one stands behind the first, or where one is called; or none is called, and the first creates none
+abbrev pub is_misplaced : ℕ → List Effect → Bool
+is_misplaced app [] = false
+is_misplaced app (e ∷ es) = list_any creates es || (creates e && not (nat_eq app 0)) || (nat_eq app 0 && not (creates e))
+
+-- an inner transaction that breaks a rule of a transfer
+abbrev pub is_ill_inner : Effect → Bool
+is_ill_inner (effect.Inner (inner.Move m)) = is_some (first_broken (move_tests m))
+is_ill_inner e = false
+
+-- of a call with its effects
+unfoldable pub call_tests : ℕ → List Effect → List (ℕ × Bool)
+call_tests app es = (23, is_misplaced app es) ∷ (24, list_any is_ill_inner es) ∷ []
+
+abbrev pub tests_of : Item → Body → List (ℕ × Bool)
+tests_of i (body.Pay p) = (9, address_eq p.close i.txn.sender) ∷ []
+tests_of i (body.KeyReg k) = keyreg_tests k i.txn.last
+tests_of i (body.Config c) = config_tests c
+tests_of i (body.Move m) = move_tests m
+tests_of i (body.Freeze f) = freeze_tests f
+tests_of i (body.App a) = call_tests a.app i.effects
+
+-- the tests of the body, and of the effects beside it
+unfoldable pub body_tests : Item → List (ℕ × Bool)
+body_tests i = tests_of i i.txn.body
 
 -- the first broken rule
 abbrev pub form_fault : Item → Chain → Option ℕ
-form_fault i c = option_or (first_broken (common_tests i.txn c)) (first_broken (body_tests i.txn))
+form_fault i c = option_or (first_broken (common_tests i.txn c)) (first_broken (body_tests i))
 
 -- the number that an answer names
 abbrev pub number_in : {A : Type 0} → Result A Ill → Option ℕ

@@ -1,8 +1,9 @@
-//! The rules on a transaction's form, which need nothing but the transaction and its chain.
+//! The rules on a transaction's form, which need nothing but its entry of the payset and its chain.
 ghost use Rattle.std.specs.Prelude.{◌≡◌, ◌+◌, nat_lt};
-ghost use Rattle.al_txn.specs.Form.{all_keys, body_tests, common_tests, first_broken, form_fault, freeze_tests, is_barred, is_given, keyreg_tests, move_tests, config_tests, no_keys, number_in};
+ghost use Rattle.std.specs.List.{list_any};
+ghost use Rattle.al_txn.specs.Form.{all_keys, body_tests, call_tests, common_tests, creates, first_broken, form_fault, freeze_tests, is_barred, is_given, is_ill_inner, is_misplaced, keyreg_tests, move_tests, config_tests, no_keys, number_in};
 
-use crate::{AssetMove, Body, Chain, Config, Freeze, Item, KeyReg, Txn};
+use crate::{AssetMove, Body, Chain, Config, Effect, Freeze, Inner, Item, KeyReg, Txn};
 use al_base::Address;
 
 const NO_ADDRESS: Address = Address([0; 32]);
@@ -14,15 +15,15 @@ pub struct Ill {
     pub number: u64,
 }
 
-/// Whether an entry keeps the form rules 1 to 22, which follow the Algorand ledger specification;
-/// else the first that it breaks. Effects are not looked at.
+/// Whether an entry keeps the form rules 1 to 24, its effects among them; else the first that it
+/// breaks. The rules on a transaction follow the Algorand ledger specification.
 pub fn well_formed(item: &Item, chain: &Chain) -> Result<(), Ill>
     ensures { number_in result ≡ form_fault item.now chain.now }
 {
     if let Some(number) = common_fault(&item.txn, chain) {
         return Err(Ill { number });
     }
-    if let Some(number) = body_fault(&item.txn) {
+    if let Some(number) = body_fault(item) {
         return Err(Ill { number });
     }
     Ok(())
@@ -78,18 +79,24 @@ fn is_given(who: &Address) -> bool
     *who != NO_ADDRESS
 }
 
-// The first broken rule of those of the body.
+// The first broken rule of those of the body and of the effects beside it.
 #[tactic(auto, unfolding(crate::specs::Form::body_tests))]
-fn body_fault(txn: &Txn) -> Option<u64>
-    ensures { result ≡ first_broken (body_tests txn.now) }
+fn body_fault(item: &Item) -> Option<u64>
+    ensures { result ≡ first_broken (body_tests item.now) }
 {
-    match &txn.body {
-        Body::Pay(p) => { if p.close == txn.sender { Some(9) } else { None } }
-        Body::KeyReg(k) => keyreg_fault(k, txn.last),
+    match &item.txn.body {
+        Body::Pay(p) => {
+            if p.close == item.txn.sender {
+                Some(9)
+            } else {
+                None
+            }
+        }
+        Body::KeyReg(k) => keyreg_fault(k, item.txn.last),
         Body::Config(c) => config_fault(c),
         Body::Move(m) => move_fault(m),
         Body::Freeze(f) => freeze_fault(f),
-        Body::App(_) => None,
+        Body::App(a) => call_fault(a.app, item.effects.as_slice()),
     }
 }
 
@@ -186,6 +193,66 @@ fn freeze_fault(f: &Freeze) -> Option<u64>
     }
     if !is_given(&f.account) {
         return Some(22);
+    }
+    None
+}
+
+// Whether an effect creates an application.
+fn creates(effect: &Effect) -> bool
+    ensures { result ≡ creates effect.now }
+{
+    match effect {
+        Effect::Create { .. } => true,
+        _ => false,
+    }
+}
+
+// Whether one of some effects creates an application.
+fn any_creates(effects: &[Effect]) -> bool
+    ensures { result ≡ list_any creates effects.now }
+{
+    effects.iter().any(|effect| creates(effect))
+}
+
+// Of a call of this application, 0 for none: whether an effect that creates one stands behind the
+// first, or where one is called; or none is called, and the first creates none.
+fn is_misplaced(app: u64, effects: &[Effect]) -> bool
+    ensures { result ≡ is_misplaced app effects.now }
+{
+    let Some((first, rest)) = effects.split_first() else {
+        return false;
+    };
+    let starts = creates(first);
+    any_creates(rest) || (starts && app != 0) || (app == 0 && !starts)
+}
+
+// Whether an effect is an inner transaction that breaks a rule of a transfer.
+fn is_ill_inner(effect: &Effect) -> bool
+    ensures { result ≡ is_ill_inner effect.now }
+{
+    match effect {
+        Effect::Inner(Inner::Move(m)) => move_fault(m).is_some(),
+        _ => false,
+    }
+}
+
+// Whether one of some effects is such an inner transaction.
+fn any_ill_inner(effects: &[Effect]) -> bool
+    ensures { result ≡ list_any is_ill_inner effects.now }
+{
+    effects.iter().any(|effect| is_ill_inner(effect))
+}
+
+// The first broken rule of a call of this application, 0 for none, and of its effects.
+#[tactic(auto, unfolding(crate::specs::Form::call_tests))]
+fn call_fault(app: u64, effects: &[Effect]) -> Option<u64>
+    ensures { result ≡ first_broken (call_tests app effects.now) }
+{
+    if is_misplaced(app, effects) {
+        return Some(23);
+    }
+    if any_ill_inner(effects) {
+        return Some(24);
     }
     None
 }
