@@ -15,10 +15,10 @@ use Rattle.al_rows.proofs.Keys.{keys_total, exact_keys}
 use Rattle.al_rows.proofs.Maps.{find-lookup}
 use Rattle.al_rows.specs.declared.change.Change.{Change}
 use Rattle.al_moves.specs.Changes.{change_of, AreChanges, changed}
-use Rattle.al_moves.specs.declared.held.Held.{Held}
-use Rattle.al_moves.specs.Held.{at, befores, now_at, nows, IsWork}
-use Rattle.al_moves.proofs.Overlays.{at-befores, at-nows, get-now, nows-ordered}
-use Rattle.al_moves.proofs.Firsts.{each_found, sorted, strictly, all_more}
+use Rattle.al_overlay.specs.declared.held.Held.{Held}
+use Rattle.al_overlay.specs.Held.{at, befores, now_at, nows, IsWork}
+use Rattle.al_overlay.proofs.Overlays.{at-befores, at-nows, get-now, nows-ordered}
+use Rattle.al_overlay.proofs.Firsts.{each_found, sorted, strictly, all_more}
 
 chosen : {A : Type 0} (b : Bool) (x y z : A) → y ≡ z → (if b then x else y) ≡ cond (not b) z x
 chosen true x y z e = refl

@@ -22,15 +22,15 @@ use Rattle.al_rows.specs.Finite.{or_below, overlaid, set_at, total, weight}
 use Rattle.al_rows.specs.Rows.{RowMap, same_status}
 use Rattle.al_rows.proofs.Keys.{keys_total, exact_keys}
 use Rattle.al_rows.proofs.Maps.{find-lookup, get-overlaid, get-set_at, total-plus, total-same, total-set_at, total-times}
-use Rattle.al_moves.specs.Accounts.{earned, share_of}
+use Rattle.al_overlay.specs.Accounts.{earned, share_of}
 use Rattle.al_moves.specs.Money.{IsExact, IsWithin, money, units, worth}
 use Rattle.al_moves.specs.Totals.{MoneyIsCounted, RiseIsCounted, count, counts, in_place, money_at, recounted, share_at, units_at, counted_anew}
-use Rattle.al_moves.specs.declared.held.Held.{Held}
-use Rattle.al_moves.specs.Held.{IsWork, at, befores, now_at, nows}
+use Rattle.al_overlay.specs.declared.held.Held.{Held}
+use Rattle.al_overlay.specs.Held.{IsWork, at, befores, now_at, nows}
 use Rattle.al_moves.proofs.Changes.{each_at}
-use Rattle.al_moves.proofs.Firsts.{all_more, each_found, first_of, less, second_of, sorted, turned_less}
+use Rattle.al_overlay.proofs.Firsts.{all_more, each_found, first_of, less, second_of, sorted, turned_less}
 use Rattle.al_moves.proofs.Monies.{pending_apart, worth_raised}
-use Rattle.al_moves.proofs.Overlays.{at-befores, now_changed, nows-ordered, same_key, some-before, told-before}
+use Rattle.al_overlay.proofs.Overlays.{at-befores, now_changed, nows-ordered, same_key, some-before, told-before}
 
 -- ---- sums that weigh rows
 

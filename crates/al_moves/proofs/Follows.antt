@@ -22,19 +22,19 @@ use Rattle.al_rows.proofs.Keys.{keys_total, exact_keys}
 use Rattle.al_rows.proofs.Maps.{total-set_at}
 use Rattle.al_rows.proofs.Sames.{account_true}
 use Rattle.al_moves.specs.declared.resource.Counts.{Counts}
-use Rattle.al_moves.specs.declared.rule.Rule.{Rule}
-use Rattle.al_moves.specs.Rules.{of_account, then_do}
-use Rattle.al_moves.specs.Accounts.{same_address}
+use Rattle.al_overlay.specs.declared.rule.Rule.{Rule}
+use Rattle.al_overlay.specs.Rules.{of_account, then_do}
+use Rattle.al_overlay.specs.Accounts.{same_address}
 use Rattle.al_moves.specs.Resources.{AreFew, CountsAgree, CountsFollow, app_account, apps_created_in, apps_opted_in, assets_created_in, assets_held_in, box_bytes_in, box_bytes_of, box_counts, boxes_of, byte_slices_in, counted_at, counts_at, counts_within, extra_pages_in, no_counts, of_local, of_params, one_if, owned, put_box, put_counted, put_counts, put_over, put_resource, recount, recounted, resource_counts, same_counts, uints_in}
-use Rattle.al_moves.specs.Work.{nonzero}
+use Rattle.al_overlay.specs.Work.{nonzero}
 use Rattle.al_moves.proofs.Monies.{account-set, ok_same, same_is, then_ok}
-use Rattle.al_moves.proofs.Overlays.{get-set, same_key}
+use Rattle.al_overlay.proofs.Overlays.{get-set, same_key}
 
 -- weights under no account's key
-abbrev IsForOthers : (Key → Row → ℕ) → Type 0
+abbrev pub IsForOthers : (Key → Row → ℕ) → Type 0
 IsForOthers w = (who : Address) (r : Row) → w (key.Account who) r ≡ 0
 
-none_weighs : (w : Key → Row → ℕ) → IsForOthers w → (who : Address) (o : Option Row) → weight w (key.Account who) o ≡ 0
+pub none_weighs : (w : Key → Row → ℕ) → IsForOthers w → (who : Address) (o : Option Row) → weight w (key.Account who) o ≡ 0
 none_weighs w h who None = refl
 none_weighs w h who (Some r) = h who r
 
@@ -42,8 +42,8 @@ either : (b : Bool) (n : ℕ) → n ≡ 0 → (if b then n else 0) ≡ 0
 either true n e = e
 either false n e = refl
 
--- an account row that is read back has its counts: a zero row has none
-read_back : (f : AccountRow → ℕ) → ((b : ℕ) → f (record no_account { base = b }) ≡ f no_account) → (r : AccountRow) → f (account_in (unless_zero (row.Account r))) ≡ f r
+-- what does not tell a zero row from none, as a count, is the same of an account row that is read back
+pub read_back : {X : Type 0} (f : AccountRow → X) → ((b : ℕ) → f (record no_account { base = b }) ≡ f no_account) → (r : AccountRow) → f (account_in (unless_zero (row.Account r))) ≡ f r
 unfolding is_zero is_zero_account
 read_back f same r = by_test (is_zero (row.Account r)) refl
   where
@@ -54,7 +54,7 @@ read_back f same r = by_test (is_zero (row.Account r)) refl
 address_is : (a b : Address) → key.Account a ≡ key.Account b → a ≡ b
 address_is a b e = cc
 
-same_is_true : (a b : Address) → same_address a b ≡ true → a ≡ b
+pub same_is_true : (a b : Address) → same_address a b ≡ true → a ≡ b
 same_is_true a b e = address_is a b (same_key (key.Account a) (key.Account b) (same_is a b ∙ e))
 
 -- equal counts

@@ -25,14 +25,14 @@ use Rattle.al_rows.specs.Finite.{set_at, weight, total}
 use Rattle.al_rows.specs.Rows.{RowMap, is_zero, is_zero_account, unless_zero, account, account_in, set_account, no_account, no_address}
 use Rattle.al_rows.proofs.Keys.{keys_total, exact_keys}
 use Rattle.al_rows.proofs.Maps.{total-set_at, total-same, total-plus, total-times}
-use Rattle.al_moves.specs.declared.rule.Rule.{Rule}
+use Rattle.al_overlay.specs.declared.rule.Rule.{Rule}
 use Rattle.al_bodies.specs.declared.body.Pay.{Pay}
-use Rattle.al_moves.specs.Rules.{then_do, unless_refused, of_account, too_little}
-use Rattle.al_moves.specs.Accounts.{same_address, share_of, earned, credited, put_account, give, take_in, moved}
+use Rattle.al_overlay.specs.Rules.{then_do, unless_refused, of_account, too_little}
+use Rattle.al_overlay.specs.Accounts.{same_address, share_of, earned, credited, put_account, give, take_in, moved}
 use Rattle.al_moves.specs.Pay.{has_no_counts, closed_at, closed, paid_amount, paid_close, paid, rekeyed}
 use Rattle.al_moves.specs.Minimum.{checked, first_shortfall, shortfall, lacking}
 use Rattle.al_moves.specs.Money.{worth, money, IsFair, MovesAreFair, IsExact, units, RiseIsEarned}
-use Rattle.al_moves.proofs.Overlays.{get-set}
+use Rattle.al_overlay.proofs.Overlays.{get-set}
 
 -- ---- one account
 
@@ -63,14 +63,14 @@ worth_credited level r = by_test (is_apart r.status) refl
     by_test false e = refl
 
 -- a credited account with another balance is worth that
-worth_with : (level new : ℕ) (r : AccountRow) → worth level (row.Account (record (credited level r) { balance = new })) ≡ new
+pub worth_with : (level new : ℕ) (r : AccountRow) → worth level (row.Account (record (credited level r) { balance = new })) ≡ new
 worth_with level new r = by_test (is_apart r.status) refl
   where
     by_test : (b : Bool) → is_apart r.status ≡ b → new + earned level (record (if b then r else record r { balance = r.balance + earned level r; base = level }) { balance = new }) ≡ new
     by_test true e = omega (arith, pending_apart level (share_of (record r { balance = new })) e)
     by_test false e = omega (arith, none_pending level (share_of (record r { balance = new; base = level })) refl)
 
-empty_pending : (level : ℕ) (s : Share) → s.balance ≡ 0 → pending level s ≡ 0
+pub empty_pending : (level : ℕ) (s : Share) → s.balance ≡ 0 → pending level s ≡ 0
 unfolding pending
 empty_pending level s e =
     let z : min max_balance (s.balance / reward_unit * (level - s.base)) ≡ 0 = ap (λ n. min max_balance (n / reward_unit * (level - s.base))) e ∙ ap (min max_balance) (zero-mul (level - s.base)) in
@@ -188,20 +188,20 @@ pub then_ok : (due : Result RowMap Rule) (f : RowMap → Result RowMap Rule) (n 
 then_ok (Ok k) f n e = (k, refl, e)
 then_ok (Err r) f n e = absurd (let x : Err r ≡ Ok n = e in cc)
 
-pick_ok : (b : Bool) (r : Rule) (x : Result RowMap Rule) (n : RowMap) → (if b then Err r else x) ≡ Ok n → x ≡ Ok n
+pub pick_ok : (b : Bool) (r : Rule) (x : Result RowMap Rule) (n : RowMap) → (if b then Err r else x) ≡ Ok n → x ≡ Ok n
 pick_ok true r x n e = absurd (let y : Err r ≡ Ok n = e in cc)
 pick_ok false r x n e = e
 
 pub ok_same : (m n : RowMap) → ◌≡◌ {A = Result RowMap Rule} (Ok m) (Ok n) → m ≡ n
 ok_same m n e = cc
 
-put_ok : (m : RowMap) (who : Address) (r : AccountRow) (n : RowMap) → put_account m who r ≡ Ok n → set_account m who r ≡ n
+pub put_ok : (m : RowMap) (who : Address) (r : AccountRow) (n : RowMap) → put_account m who r ≡ Ok n → set_account m who r ≡ n
 put_ok m who r n e = ok_same _ _ (pick_ok (nat_lt max_balance r.balance) (of_account 41 who) (Ok (set_account m who r)) n e)
 
 worth_kept : (level : ℕ) (who : Address) (r : AccountRow) → worth level (row.Account (account_in (unless_zero (row.Account r)))) ≡ worth level (row.Account r)
 worth_kept level who r = sym (weight_account level who (unless_zero (row.Account r))) ∙ weight_kept level who r
 
-same_itself : (a : Address) → same_address a a ≡ true
+pub same_itself : (a : Address) → same_address a a ≡ true
 same_itself a = nat_list_eq_equiv.refl a.0
 
 -- what gives all that it has is worth nothing

@@ -13,12 +13,12 @@ use Rattle.al_rows.proofs.Sames.{same_itself}
 use Rattle.al_base.specs.declared.account.Special.{Special}
 use Rattle.al_rows.proofs.Keys.{keys_total}
 use Rattle.al_rows.proofs.Maps.{find-lookup}
-use Rattle.al_moves.specs.declared.rule.Rule.{Rule}
-use Rattle.al_moves.specs.Accounts.{same_address}
+use Rattle.al_overlay.specs.declared.rule.Rule.{Rule}
+use Rattle.al_overlay.specs.Accounts.{same_address}
 use Rattle.al_moves.specs.Minimum.{shortfall, first_shortfall, lacking}
-use Rattle.al_moves.specs.Held.{at, now_at}
-use Rattle.al_moves.proofs.Overlays.{get-now, has}
-use Rattle.al_moves.proofs.Firsts.{first_same, first_over, each_found, all_more, sorted}
+use Rattle.al_overlay.specs.Held.{at, now_at}
+use Rattle.al_overlay.proofs.Overlays.{get-now, has}
+use Rattle.al_overlay.proofs.Firsts.{first_same, first_over, each_found, all_more, sorted}
 
 -- a test with a true part passes
 third : (a b d : Bool) → (a || b || true || d) ≡ true

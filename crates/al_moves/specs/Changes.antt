@@ -9,18 +9,12 @@ use Rattle.std.specs.List.Sorted.{IsStrictlySortedBy}
 use Rattle.al_base.specs.declared.key.Key.{Key}
 use Rattle.al_base.specs.Keys.{key_cmp}
 use Rattle.al_rows.specs.declared.row.Row.{Row}
-use Rattle.al_rows.specs.Finite.{or_below}
 use Rattle.al_rows.specs.Rows.{RowMap, same_row}
 use Rattle.al_rows.specs.declared.change.Change.{Change}
-use Rattle.al_moves.specs.declared.held.Held.{Held}
+use Rattle.al_overlay.specs.declared.held.Held.{Held}
 
 abbrev pub change_of : Change → Key × Option Row
 change_of c = (c.key, c.row)
-
--- the entries whose rows differ from those before
-abbrev pub differing : List (Key × Option Row) → List (Key × Option Row) → List (Key × Option Row)
-differing before [] = []
-differing before (e ∷ es) = if same_row (or_below (lookup (is_at (key_cmp e.0)) before) None) e.1 then differing before es else e ∷ differing before es
 
 -- the rows that differ, in the order of keys
 pub record AreChanges (block now : RowMap) (changes : List (Key × Option Row)) : Type 0 where

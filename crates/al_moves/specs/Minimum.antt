@@ -12,9 +12,9 @@ use Rattle.al_rows.specs.declared.account.AccountRow.{AccountRow}
 use Rattle.al_rows.specs.declared.row.Row.{Row}
 use Rattle.al_rows.specs.Finite.{first_some}
 use Rattle.al_rows.specs.Rows.{RowMap, min_balance, account_in, same_row}
-use Rattle.al_moves.specs.declared.rule.Rule.{Rule}
-use Rattle.al_moves.specs.Rules.{too_little, unless_refused}
-use Rattle.al_moves.specs.Accounts.{same_address, earned}
+use Rattle.al_overlay.specs.declared.rule.Rule.{Rule}
+use Rattle.al_overlay.specs.Rules.{too_little, unless_refused}
+use Rattle.al_overlay.specs.Accounts.{same_address, earned}
 
 abbrev pub lacking : ℕ → Address → AccountRow → Option Rule
 lacking level who r = if nat_lt (r.balance + earned level r) (min_balance r) then Some (too_little 42 (r.balance + earned level r) (min_balance r) who) else None

@@ -13,10 +13,10 @@ use Rattle.al_rows.specs.declared.account.AccountRow.{AccountRow}
 use Rattle.al_rows.specs.declared.row.Row.{Row}
 use Rattle.al_rows.specs.Rows.{RowMap}
 use Rattle.al_bodies.specs.declared.body.Pay.{Pay}
-use Rattle.al_moves.specs.declared.rule.Rule.{Rule}
+use Rattle.al_overlay.specs.declared.rule.Rule.{Rule}
 use Rattle.al_rows.specs.declared.row.Row.TheVariants as row
 use Rattle.al_rows.specs.Finite.{total}
-use Rattle.al_moves.specs.Accounts.{earned, moved}
+use Rattle.al_overlay.specs.Accounts.{earned, moved}
 use Rattle.al_moves.specs.Pay.{paid, rekeyed}
 use Rattle.al_moves.specs.Minimum.{checked}
 

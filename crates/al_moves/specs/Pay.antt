@@ -9,9 +9,9 @@ use Rattle.al_rows.specs.declared.account.AccountRow.{AccountRow}
 use Rattle.al_rows.specs.Finite.{set_at}
 use Rattle.al_rows.specs.Rows.{RowMap, no_address, account}
 use Rattle.al_bodies.specs.declared.body.Pay.{Pay}
-use Rattle.al_moves.specs.declared.rule.Rule.{Rule}
-use Rattle.al_moves.specs.Rules.{then_do, of_account}
-use Rattle.al_moves.specs.Accounts.{same_address, credited, put_account, moved}
+use Rattle.al_overlay.specs.declared.rule.Rule.{Rule}
+use Rattle.al_overlay.specs.Rules.{then_do, of_account}
+use Rattle.al_overlay.specs.Accounts.{same_address, credited, put_account, moved}
 
 -- no asset, application, schema entry, extra page or box
 abbrev pub has_no_counts : AccountRow → Bool

@@ -22,10 +22,10 @@ use Rattle.al_rows.specs.Finite.{set_at, total}
 use Rattle.al_rows.specs.Limits.{max_count}
 use Rattle.al_rows.specs.Rows.{RowMap, account, set_account}
 use Rattle.al_moves.specs.declared.resource.Counts.{Counts}
-use Rattle.al_moves.specs.declared.rule.Rule.{Rule}
-use Rattle.al_moves.specs.Rules.{of_account, then_do}
-use Rattle.al_moves.specs.Accounts.{same_address}
-use Rattle.al_moves.specs.Work.{nonzero}
+use Rattle.al_overlay.specs.declared.rule.Rule.{Rule}
+use Rattle.al_overlay.specs.Rules.{of_account, then_do}
+use Rattle.al_overlay.specs.Accounts.{same_address}
+use Rattle.al_overlay.specs.Work.{nonzero}
 
 abbrev pub one_if : Bool → ℕ
 one_if b = if b then 1 else 0

@@ -8,7 +8,7 @@ use Rattle.al_rewards.specs.declared.share.Share.{Share}
 use Rattle.al_rows.specs.declared.account.AccountRow.{AccountRow}
 use Rattle.al_rows.specs.declared.row.Row.{Row}
 use Rattle.al_rows.specs.Rows.{RowMap, same_status}
-use Rattle.al_moves.specs.declared.held.Held.{Held}
+use Rattle.al_overlay.specs.declared.held.Held.{Held}
 use Rattle.al_base.specs.declared.account.Status.{Status}
 use Rattle.al_base.specs.declared.account.Status.TheVariants.{Offline, Online, NotParticipating}
 use Rattle.al_rewards.specs.Pending.{reward_unit}
@@ -17,8 +17,8 @@ use Rattle.al_rewards.specs.declared.totals.Count.{Count}
 use Rattle.al_rewards.specs.declared.totals.Totals.{Totals}
 use Rattle.al_rows.specs.declared.row.Row.TheVariants as row
 use Rattle.al_rows.specs.Finite.{total}
-use Rattle.al_moves.specs.Accounts.{share_of}
-use Rattle.al_moves.specs.Held.{now_at}
+use Rattle.al_overlay.specs.Accounts.{share_of}
+use Rattle.al_overlay.specs.Held.{now_at}
 use Rattle.al_moves.specs.Money.{worth, money, IsExact, units}
 
 -- what a row has as money, and as units, of accounts of a status

@@ -2,6 +2,7 @@
 ghost use Rattle.al_moves.specs.Money.{MovesAreFair, RiseIsEarned};
 ghost use Rattle.al_moves.specs.Totals.{MoneyIsCounted, RiseIsCounted};
 ghost use Rattle.al_moves.specs.Resources.{CountsFollow};
+ghost use Rattle.al_moves.specs.Keys.{KeysAreFair};
 
 /// No move makes or loses money, and none is refused by the most that a balance may be where all
 /// the money is at most that.
@@ -29,4 +30,10 @@ pub fn money_is_counted()
 /// A resource row or a box that is put keeps the counts of all accounts those of their rows.
 pub fn counts_follow()
     ensures { CountsFollow }
+{}
+
+/// A registration of keys, and keys that expire, change the status and the keys of one account and
+/// nothing else, and make or lose no money where the account was given its rewards before.
+pub fn keys_are_fair()
+    ensures { KeysAreFair }
 {}

@@ -3,27 +3,15 @@ ghost use Rattle.std.specs.Prelude.{◌≡◌, ◌^◌, ◌≤◌, Option, Some,
 ghost use Rattle.al_rows.specs.Finite.{first_some};
 ghost use Rattle.al_rows.specs.Limits.{max_balance};
 ghost use Rattle.al_rows.specs.Rows.{AccountInRange, InRange, IsKept};
-ghost use Rattle.al_moves.specs.Accounts.{earned, share_of};
+ghost use Rattle.al_overlay.specs.Accounts.{earned};
 ghost use Rattle.al_moves.specs.Minimum.{lacking, shortfall};
-ghost use Rattle.al_moves.specs.Held.{at, now_at, nows};
+ghost use Rattle.al_overlay.specs.Held.{at, now_at, nows};
 
-use crate::Rule;
-use crate::held::Held;
 use al_base::{Address, Key, Special};
-use al_rewards::{Share, pending};
+use al_overlay::{Held, Rule, share_of};
+use al_rewards::pending;
 use al_rows::{AccountRow, Row, account_in, same_row};
 use std::collections::BTreeMap;
-
-/// What the rewards of an account depend on.
-pub fn share_of(r: &AccountRow) -> Share
-    ensures { result ≡ share_of r.now }
-{
-    Share {
-        status: r.status,
-        balance: r.balance,
-        base: r.base,
-    }
-}
 
 // The rewards of an account that are not yet in its balance.
 pub fn earned(level: u64, r: &AccountRow) -> u64
@@ -34,11 +22,11 @@ pub fn earned(level: u64, r: &AccountRow) -> u64
 }
 
 // What an account lacks.
-fn lacking(level: u64, who: &Address, r: AccountRow) -> Option<Rule>
-    requires { AccountInRange r }
-    ensures { result ≡ lacking level who.now r }
+fn lacking(level: u64, who: &Address, r: &AccountRow) -> Option<Rule>
+    requires { AccountInRange r.now }
+    ensures { result ≡ lacking level who.now r.now }
 {
-    let has = r.balance + earned(level, &r);
+    let has = r.balance + earned(level, r);
     let needs = r.min_balance();
     if has < needs {
         Some(Rule::too_little(42, has, needs, who))
@@ -61,10 +49,14 @@ fn shortfall(
     match key {
         Key::Resource(_, _) | Key::Box(_, _) => None,
         Key::Account(who) => {
-            if *who == special.sink || *who == special.pool || now.is_none() || same_row(old, now) {
+            if *who == special.sink || *who == special.pool || same_row(old, now) {
                 return None;
             }
-            lacking(level, who, account_in(now))
+            match now {
+                Some(Row::Account(r)) => lacking(level, who, r),
+                Some(Row::Asset(_)) | Some(Row::App(_)) | Some(Row::Box(_)) => unreachable!(),
+                None => None,
+            }
         }
     }
 }

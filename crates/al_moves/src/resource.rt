@@ -4,11 +4,11 @@ ghost use Rattle.std.specs.Option.{option_map};
 ghost use Rattle.al_rows.specs.Rows.{CountsInRange, InRange, LocalInRange, ParamsInRange};
 ghost use Rattle.al_moves.specs.Resources.{AreFew, counted_at, counts_at, counts_within, no_counts, of_local, of_params, one_if, recounted, resource_counts, box_counts, app_account, same_counts};
 ghost use Rattle.al_base.specs.Name.{name_of};
-ghost use Rattle.al_moves.specs.Held.{at, nows};
+ghost use Rattle.al_overlay.specs.Held.{at, nows};
 
-use crate::held::Held;
 use al_base::{Address, BoxName, Key};
 use al_digest::{Prefix, digest};
+use al_overlay::Held;
 use al_rows::{AccountRow, AppParams, AppRow, AssetRow, BoxRow, Local, MAX_COUNT, Row};
 use std::collections::BTreeMap;
 

@@ -4,9 +4,8 @@ ghost use Rattle.std.specs.BTreeMap.{IsOrdered};
 ghost use Rattle.al_base.specs.Keys.{key_cmp};
 ghost use Rattle.al_moves.specs.Totals.{counted_anew, share_at};
 
-use crate::held::Held;
-use crate::minimum::share_of;
 use al_base::Key;
+use al_overlay::{Held, share_of};
 use al_rewards::{Share, Totals};
 use al_rows::Row;
 use std::collections::BTreeMap;

@@ -10,20 +10,25 @@ ghost use Rattle.al_rows.specs.Limits.{max_balance};
 ghost use Rattle.al_rows.specs.Rows.{AccountInRange, CountsInRange, InRange, IsKept, RowMap, account, creator_of, same_row};
 ghost use Rattle.al_moves.specs.Money.{IsWithin};
 ghost use Rattle.al_moves.specs.Totals.{counts};
-ghost use Rattle.al_moves.specs.Accounts.{credited, give, moved, put_account, take_in};
+ghost use Rattle.al_overlay.specs.Accounts.{credited, moved, put_account};
+ghost use Rattle.al_overlay.specs.Flows.{after_flow};
 ghost use Rattle.al_moves.specs.Pay.{closed, closed_at, has_no_counts, paid, paid_amount, paid_close, rekeyed};
 ghost use Rattle.al_moves.specs.Minimum.{checked};
 ghost use Rattle.al_moves.specs.Changes.{AreChanges, change_of, changed};
-ghost use Rattle.al_moves.specs.Work.{Does, HasOneCreator, IsNoRule, Looks, nonzero};
+ghost use Rattle.al_overlay.specs.Work.{Does, HasOneCreator, IsNoRule, Looks, nonzero};
 
+mod creators;
+mod keys;
+mod online;
 mod puts;
 
-use crate::creator::{Creators, creator_over, set_noted};
-use crate::held::{Held, account_held, hold_account, row_held, viewed};
 use crate::minimum::{earned, first_shortfall};
 use crate::totals::totals_of;
-use crate::{Rule, Stop};
 use al_base::{Address, Key, Special, Status};
+use al_overlay::{
+    Creators, Flow, Held, Rule, Stop, account_held, creator_over, flow_row, hold_account, row_held,
+    set_noted, viewed,
+};
 use al_rewards::Totals;
 use al_rows::{
     AccountRow, Change, Changes, MAX_BALANCE, Row, RowView, ViewFault, account_in, same_row,
@@ -50,9 +55,9 @@ pub struct Work<V: RowView> {
 
 impl<V: RowView> Model for Work<V> {
     ghost use Rattle.al_rows.specs.Finite.{overlaid};
-    ghost use Rattle.al_moves.specs.Creators.{AreNoted};
-    ghost use Rattle.al_moves.specs.Held.{IsWork, nows};
-    ghost use Rattle.al_moves.specs.Work.{Worked};
+    ghost use Rattle.al_overlay.specs.Creators.{AreNoted};
+    ghost use Rattle.al_overlay.specs.Held.{IsWork, nows};
+    ghost use Rattle.al_overlay.specs.Work.{Worked};
     ghost use Rattle.std.specs.FinMap as map;
     ghost use Rattle.std.specs.Coded.{codes};
     ghost use Rattle.al_base.specs.Keys.{key_cmp};
@@ -159,17 +164,6 @@ impl<V: RowView> Work<V> {
 }
 
 impl<V: RowView> Work<V> {
-    // The account with its pending rewards given to it.
-    #[inline(always)]
-    fn credited(&mut self, who: &Address) -> Result<AccountRow, Stop<V::Fault>>
-        ensures looks { Looks V.tells self.old self.new result }
-        ensures value { V.tells ≡ true → IfOk result (λ r. r ≡ credited self.old.level (account self.old.now who.now)) }
-        ensures range { IfOk result (λ r. (r.balance ≤ 2 * max_balance) × CountsInRange r) }
-    {
-        let r = self.account(who)?;
-        Ok(credited(self.level, r))
-    }
-
     // Puts an account, unless its balance passes the most.
     #[inline(always)]
     fn put_account(&mut self, who: &Address, r: AccountRow) -> Result<(), Stop<V::Fault>>
@@ -184,44 +178,23 @@ impl<V: RowView> Work<V> {
 }
 
 impl<V: RowView> Work<V> {
-    // An account gives an amount.
-    #[tactic(auto, unfolding(crate::specs::Accounts::give))]
-    fn give(&mut self, who: &Address, amount: u64) -> Result<(), Stop<V::Fault>>
-        ensures { Does V.tells (give self.old.level who.now amount self.old.now) self.old self.new result }
+    // An amount flows out of an account, or into it.
+    #[inline(always)]
+    fn flow(&mut self, who: &Address, flow: Flow) -> Result<(), Stop<V::Fault>>
+        ensures { Does V.tells (after_flow self.old.level who.now flow self.old.now) self.old self.new result }
     {
-        let r = self.credited(who)?;
-        if r.balance < amount {
-            return Err(Stop::Rule(Rule::too_little(40, r.balance, amount, who)));
-        }
-        self.put_account(
+        flow_row(
+            &mut self.view,
+            &mut self.rows,
+            &mut self.started,
+            self.level,
             who,
-            AccountRow {
-                balance: r.balance - amount,
-                ..r
-            },
-        )
-    }
-
-    // An account takes an amount in.
-    #[tactic(auto, unfolding(crate::specs::Accounts::take_in))]
-    fn take_in(&mut self, who: &Address, amount: u64) -> Result<(), Stop<V::Fault>>
-        ensures { Does V.tells (take_in self.old.level who.now amount self.old.now) self.old self.new result }
-    {
-        let r = self.credited(who)?;
-        if r.balance.saturating_add(amount) > MAX_BALANCE {
-            return Err(Stop::Rule(Rule::of_account(41, who)));
-        }
-        self.put_account(
-            who,
-            AccountRow {
-                balance: r.balance + amount,
-                ..r
-            },
+            flow,
         )
     }
 
     /// Moves an amount from one account to another.
-    #[tactic(auto, unfolding(crate::specs::Accounts::moved))]
+    #[tactic(auto, unfolding(al_overlay::specs::Accounts::moved))]
     pub fn move_algos(
         &mut self,
         from: &Address,
@@ -230,8 +203,8 @@ impl<V: RowView> Work<V> {
     ) -> Result<(), Stop<V::Fault>>
         ensures { Does V.tells (moved self.old.level from.now to.now amount self.old.now) self.old self.new result }
     {
-        self.give(from, amount)?;
-        self.take_in(to, amount)
+        self.flow(from, Flow::Out(amount))?;
+        self.flow(to, Flow::In(amount))
     }
 
     // The account, a missing one being the zero row.
@@ -404,13 +377,13 @@ fn changes(alloc: Global, rows: BTreeMap<Key, Held>) -> Result<Changes, AllocErr
     ensures items { IfOk result (λ cs. map change_of cs ≡ changed rows.entries) }
     ensures ordered { OnOk result (IsStrictlySortedBy key_cmp (map (λ e. e.0) rows.entries)) }
 {
-    let mut out = Changes::new(alloc);
+    let mut out = Vec::with_capacity(alloc, rows.len())?;
     for (key, held) in rows {
         if !same_row(&held.block, &held.row) {
             out.push(Change { key, row: held.row })?;
         }
     }
-    Ok(out)
+    Ok(Changes::from_vec(out))
 }
 
 // A zero row is no row.

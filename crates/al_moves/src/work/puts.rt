@@ -4,13 +4,12 @@ ghost use Rattle.std.specs.FinMap.{get};
 ghost use Rattle.al_rows.specs.Limits.{max_balance};
 ghost use Rattle.al_rows.specs.Rows.{InRange, IsKept};
 ghost use Rattle.al_moves.specs.Resources.{AreFew, counts_at, put_box, put_counted, put_counts, put_over, put_resource, recount};
-ghost use Rattle.al_moves.specs.Work.{Does, IsCounted, IsNoRule, Looks};
+ghost use Rattle.al_overlay.specs.Work.{Does, IsCounted, IsNoRule, Looks};
 
 use super::{Work, nonzero};
-use crate::held::viewed;
 use crate::resource::{Counts, app_account, counts_at, counts_held, counts_within, recounted};
-use crate::{Rule, Stop};
 use al_base::{Address, BoxName, Key};
+use al_overlay::{Rule, Stop, viewed};
 use al_rows::{AccountRow, BoxRow, Row, RowView};
 
 impl<V: RowView> Work<V> {

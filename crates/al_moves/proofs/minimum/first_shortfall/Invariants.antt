@@ -1,7 +1,7 @@
 use Rattle.std.proofs.Common.{◌≡◌, drop}
 use Rattle.al_moves.specs.Minimum.{shortfall}
 use Rattle.al_rows.specs.Finite.{first_some}
-use Rattle.al_moves.specs.Held.{now_at, nows}
+use Rattle.al_overlay.specs.Held.{now_at, nows}
 use Rattle.al_moves.proofs.minimum.first_shortfall.Given as goal
 
 abbrev pub invariant-loop-entry : goal.invariant-loop-entry

@@ -5,9 +5,9 @@ use Rattle.al_rows.specs.Finite.{or_below}
 use Rattle.al_rows.proofs.Keys.{derived_order}
 use Rattle.al_moves.specs.Minimum.{shortfall}
 use Rattle.al_rows.specs.Rows.{InRange}
-use Rattle.al_moves.specs.declared.held.Held.{Held}
-use Rattle.al_moves.specs.Held.{at}
-use Rattle.al_moves.proofs.Overlays.{at-nows}
+use Rattle.al_overlay.specs.declared.held.Held.{Held}
+use Rattle.al_overlay.specs.Held.{at}
+use Rattle.al_overlay.proofs.Overlays.{at-nows}
 use Rattle.al_moves.proofs.minimum.shortfall_at.Goals as goal
 
 pub shortfall-requires : goal.shortfall-requires

@@ -3,10 +3,10 @@ use Rattle.std.specs.BTreeMap.{get}
 use Rattle.al_base.specs.declared.key.Key.{Key}
 use Rattle.al_rows.specs.Rows.{InRange}
 use Rattle.al_rows.proofs.Keys.{derived_order}
-use Rattle.al_moves.specs.declared.held.Held.{Held}
+use Rattle.al_overlay.specs.declared.held.Held.{Held}
 use Rattle.al_moves.specs.Resources.{counts_at}
-use Rattle.al_moves.specs.Held.{at}
-use Rattle.al_moves.proofs.Overlays.{at-nows}
+use Rattle.al_overlay.specs.Held.{at}
+use Rattle.al_overlay.proofs.Overlays.{at-nows}
 use Rattle.al_moves.proofs.resource.counts_held.Goals as goal
 
 pub counts_at-requires : goal.counts_at-requires

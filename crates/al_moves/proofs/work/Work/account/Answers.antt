@@ -1,9 +1,9 @@
 use Rattle.std.proofs.Common.{◌∙◌, ap}
 use Rattle.al_rows.specs.Rows.{account}
-use Rattle.al_moves.specs.Held.{nows}
-use Rattle.al_moves.specs.Work.{Worked}
-use Rattle.al_moves.proofs.Creators.{account_noted}
-use Rattle.al_moves.proofs.Holds.{account-held, not-held}
+use Rattle.al_overlay.specs.Held.{nows}
+use Rattle.al_overlay.specs.Work.{Worked}
+use Rattle.al_overlay.proofs.Creators.{account_noted}
+use Rattle.al_overlay.proofs.Holds.{account-held, not-held}
 use Rattle.al_moves.proofs.work.Work.account.Goals as goal
 
 pub hold_account-requires : goal.hold_account-requires

@@ -1,4 +1,4 @@
-use Rattle.al_moves.proofs.Overlays.{IsWork-begin}
+use Rattle.al_overlay.proofs.Overlays.{IsWork-begin}
 use Rattle.al_moves.proofs.work.Work.begin.Goals as goal
 
 pub invariant_of-self : goal.invariant_of-self

@@ -1,11 +1,11 @@
 use Rattle.std.proofs.Common.{◌≡◌, ◌∙◌, sym, ap}
 use Rattle.al_rows.specs.Finite.{first_some}
 use Rattle.al_moves.specs.Minimum.{first_shortfall, shortfall}
-use Rattle.al_moves.specs.Held.{now_at, nows}
-use Rattle.al_moves.specs.Work.{Worked}
-use Rattle.al_moves.proofs.Overlays.{some-now}
+use Rattle.al_overlay.specs.Held.{now_at, nows}
+use Rattle.al_overlay.specs.Work.{Worked}
+use Rattle.al_overlay.proofs.Overlays.{some-now}
 use Rattle.al_moves.proofs.Shortfalls.{first_shortfall-changed}
-use Rattle.al_moves.proofs.Steps.{asks-some, asks-none}
+use Rattle.al_overlay.proofs.Steps.{asks-some, asks-none}
 use Rattle.al_moves.proofs.work.Work.check_minimum.Goals as goal
 use Rattle.al_moves.proofs.work.Work.check_minimum.Goals.{in-Some, in-None}
 

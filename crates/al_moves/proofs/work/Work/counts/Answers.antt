@@ -2,9 +2,9 @@ use Rattle.std.proofs.Common.{◌≡◌, ◌∙◌, ap, sym, subst, IfOk}
 use Rattle.std.specs.FinMap.{get}
 use Rattle.al_moves.specs.declared.resource.Counts.{Counts}
 use Rattle.al_moves.specs.Resources.{counts_at}
-use Rattle.al_moves.specs.Held.{nows}
-use Rattle.al_moves.specs.Work.{Worked}
-use Rattle.al_moves.proofs.Holds.{held-as, viewed-as}
+use Rattle.al_overlay.specs.Held.{nows}
+use Rattle.al_overlay.specs.Work.{Worked}
+use Rattle.al_overlay.proofs.Holds.{held-as, viewed-as}
 use Rattle.al_moves.proofs.work.Work.counts.Goals as goal
 
 pub returns-in-Some-clause-value : goal.returns-in-Some-clause-value

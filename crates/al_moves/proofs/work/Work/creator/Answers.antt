@@ -2,8 +2,8 @@ use Rattle.std.proofs.Common.{◌≡◌, subst, ◌∙◌}
 use Rattle.al_rows.specs.Rows.{creator_of}
 use Rattle.std.specs.BTreeMap as tree
 use Rattle.std.specs.Ordering.{nat_cmp}
-use Rattle.al_moves.specs.Work.{Worked, HasOneCreator}
-use Rattle.al_moves.proofs.Creators.{creator_is, noted_at}
+use Rattle.al_overlay.specs.Work.{Worked, HasOneCreator}
+use Rattle.al_overlay.proofs.Creators.{creator_is, noted_at}
 use Rattle.al_moves.proofs.work.Work.creator.Goals as goal
 use Rattle.al_moves.proofs.work.Work.creator.Goals.{in-Ok, in-Err-Failed, in-Err-Memory}
 

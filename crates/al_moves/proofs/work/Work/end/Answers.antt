@@ -1,6 +1,6 @@
 use Rattle.std.proofs.Common.{subst, IfOk, map}
 use Rattle.al_moves.specs.Changes.{AreChanges, change_of}
-use Rattle.al_moves.specs.Work.{Worked}
+use Rattle.al_overlay.specs.Work.{Worked}
 use Rattle.al_moves.proofs.Changes.{finish_changes, finish_ordered, finish_kept}
 use Rattle.al_moves.proofs.work.Work.end.Goals as goal
 

@@ -1,5 +1,5 @@
-use Rattle.al_moves.proofs.Creators.{none_noted}
-use Rattle.al_moves.proofs.Overlays.{IsWork-new}
+use Rattle.al_overlay.proofs.Creators.{none_noted}
+use Rattle.al_overlay.proofs.Overlays.{IsWork-new}
 use Rattle.al_moves.proofs.work.Work.new.Goals as goal
 
 pub invariant_of-result : goal.invariant_of-result

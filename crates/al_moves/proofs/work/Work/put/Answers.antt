@@ -1,5 +1,5 @@
 use Rattle.std.proofs.Common.{refl}
-use Rattle.al_moves.proofs.Steps.{does-row}
+use Rattle.al_overlay.proofs.Steps.{does-row}
 use Rattle.al_moves.proofs.work.Work.put.Goals as goal
 
 pub invariant_of-self : goal.invariant_of-self

@@ -1,9 +1,9 @@
 use Rattle.std.proofs.Common.{◌≡◌, ◌∙◌, ap, sym, subst, IfOk, Option}
 use Rattle.std.specs.FinMap.{get}
 use Rattle.al_rows.specs.declared.row.Row.{Row}
-use Rattle.al_moves.specs.Held.{nows}
-use Rattle.al_moves.specs.Work.{Worked}
-use Rattle.al_moves.proofs.Overlays.{now_changed, now_below}
+use Rattle.al_overlay.specs.Held.{nows}
+use Rattle.al_overlay.specs.Work.{Worked}
+use Rattle.al_overlay.proofs.Overlays.{now_changed, now_below}
 use Rattle.al_moves.proofs.work.Work.row.Goals as goal
 
 pub returns-in-Ok-Some-clause-value : goal.returns-in-Ok-Some-clause-value

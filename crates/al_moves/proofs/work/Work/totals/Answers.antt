@@ -1,7 +1,7 @@
 use Rattle.std.proofs.Common.{◌≡◌, subst}
 use Rattle.al_moves.specs.Money.{IsWithin}
 use Rattle.al_moves.specs.Totals.{counts}
-use Rattle.al_moves.specs.Work.{Worked}
+use Rattle.al_overlay.specs.Work.{Worked}
 use Rattle.al_moves.proofs.Counts.{work_counted}
 use Rattle.al_moves.proofs.work.Work.totals.Goals as goal
 

@@ -1,0 +1,6 @@
+pub mod Firsts
+pub mod Overlays
+pub mod Holds
+pub mod Steps
+pub mod Creators
+pub mod Flows
