@@ -16,9 +16,9 @@ use Rattle.al_rows.specs.Rows.{RowMap, asset_params_eq, creator_of, no_address}
 use Rattle.al_bodies.specs.declared.body.AssetMove.{AssetMove}
 use Rattle.al_bodies.specs.declared.body.Config.{Config}
 use Rattle.al_bodies.specs.declared.body.Freeze.{Freeze}
-use Rattle.al_moves.specs.declared.rule.Rule.{Rule}
-use Rattle.al_moves.specs.Rules.{of_account, of_id, plain_rule, then_do, too_few}
-use Rattle.al_moves.specs.Accounts.{same_address}
+use Rattle.al_overlay.specs.declared.rule.Rule.{Rule}
+use Rattle.al_overlay.specs.Rules.{of_account, of_id, plain_rule, then_do, too_few}
+use Rattle.al_overlay.specs.Accounts.{same_address}
 use Rattle.al_moves.specs.Resources.{put_resource}
 use Rattle.al_resources.specs.declared.asset.Issued.{Issued}
 

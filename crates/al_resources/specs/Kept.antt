@@ -9,7 +9,7 @@ use Rattle.al_rows.specs.Rows.{AssetParamsInRange, RowMap, account}
 use Rattle.al_bodies.specs.declared.body.AssetMove.{AssetMove}
 use Rattle.al_bodies.specs.declared.body.Config.{Config}
 use Rattle.al_bodies.specs.declared.body.Freeze.{Freeze}
-use Rattle.al_moves.specs.declared.rule.Rule.{Rule}
+use Rattle.al_overlay.specs.declared.rule.Rule.{Rule}
 use Rattle.al_moves.specs.Money.{money}
 use Rattle.al_resources.specs.Assets.{configured, frozen, transferred}
 use Rattle.al_resources.specs.Sound.{IsOtherRule, SoundRows}

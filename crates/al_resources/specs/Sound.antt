@@ -1,5 +1,5 @@
 -- What is sound of rows: money, ids, holdings and counts agree with one another.
-use Rattle.std.specs.Prelude.{◌≡◌, ◌≢◌, ⊤, ⊥, ℕ, ◌≤◌, Bool, true, false, nat_eq, if◌then◌else◌, length}
+use Rattle.std.specs.Prelude.{◌≡◌, ◌≢◌, ⊤, ℕ, ◌≤◌, Bool, true, false, nat_eq, if◌then◌else◌, length}
 use Rattle.std.specs.declared.option.Option.{Option}
 use Rattle.std.specs.declared.option.Option.TheVariants.{None, Some}
 use Rattle.std.specs.FinMap.{get}
@@ -16,7 +16,7 @@ use Rattle.al_rows.specs.declared.row.Row.TheVariants as row
 use Rattle.al_rows.specs.Finite.{total}
 use Rattle.al_rows.specs.Limits.{max_balance}
 use Rattle.al_rows.specs.Rows.{AccountInRange, AssetParamsInRange, HoldingInRange, LocalInRange, ParamsInRange, RowMap, account, has_params}
-use Rattle.al_moves.specs.declared.rule.Rule.{Rule}
+use Rattle.al_overlay.specs.declared.rule.Rule.{Rule}
 use Rattle.al_moves.specs.Money.{money}
 use Rattle.al_moves.specs.Resources.{CountsAgree}
 use Rattle.al_resources.specs.Assets.{amount_in}

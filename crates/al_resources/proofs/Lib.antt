@@ -1,0 +1,11 @@
+pub mod Steps
+pub mod Recounts
+pub mod Puts
+pub mod Owings
+pub mod Issues
+pub mod Shifts
+pub mod Configs
+pub mod Soundness
+pub mod Wheres
+pub mod Params
+pub mod Rests
