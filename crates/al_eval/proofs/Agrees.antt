@@ -11,7 +11,7 @@ use Rattle.al_base.specs.declared.account.Status.TheVariants.{NotParticipating}
 use Rattle.al_base.specs.declared.key.Key.{Key}
 use Rattle.al_rows.specs.declared.account.AccountRow.{AccountRow}
 use Rattle.al_moves.specs.Resources.{CountsAgree, owned, boxes_of, box_bytes_of, assets_held_in, assets_created_in, apps_created_in, apps_opted_in, extra_pages_in, uints_in, byte_slices_in}
-use Rattle.al_eval.specs.Sound.{ResourcesAgree, holding_of, issued_of, SoundRows}
+use Rattle.al_resources.specs.Sound.{ResourcesAgree, SoundRows, holding_of, issued_of}
 use Rattle.al_eval.proofs.Steadies.{Keeps, IsForOthers, counts_of}
 
 pub resources_agree : (old new level : ℕ) (m n : RowMap) → Keeps level m n → old ≤ new → ResourcesAgree old m → ResourcesAgree new n

@@ -11,8 +11,8 @@ use Rattle.al_rows.specs.Rows.{RowMap, same_row, bare}
 use Rattle.al_rows.proofs.Keys.{keys_total, exact_keys}
 use Rattle.al_rows.proofs.Maps.{get-map_entries}
 use Rattle.al_rows.proofs.Sames.{same_true}
-use Rattle.al_moves.specs.Rules.{then_do}
-use Rattle.al_moves.proofs.Overlays.{get-now}
+use Rattle.al_overlay.specs.Rules.{then_do}
+use Rattle.al_overlay.proofs.Overlays.{get-now}
 use Rattle.al_eval.specs.Past.{entry_of}
 use Rattle.al_eval.specs.Refusals.{Refusal}
 use Rattle.al_eval.specs.Steps.{block_rows}

@@ -24,11 +24,11 @@ use Rattle.al_rows.specs.Rows.{RowMap, bare, is_zero, is_zero_account, no_accoun
 use Rattle.al_rows.proofs.Keys.{keys_total, exact_keys}
 use Rattle.al_rows.proofs.Maps.{get-map_entries}
 use Rattle.al_rows.proofs.Sames.{account_true}
-use Rattle.al_moves.specs.Accounts.{share_of}
+use Rattle.al_overlay.specs.Accounts.{share_of}
 use Rattle.al_moves.specs.Totals.{counts, money_at, share_at, units_at}
 use Rattle.al_moves.proofs.Counts.{counts_fit, counts_put, counts_set}
 use Rattle.al_moves.proofs.Monies.{none_pending}
-use Rattle.al_moves.proofs.Overlays.{get-set}
+use Rattle.al_overlay.proofs.Overlays.{get-set}
 use Rattle.al_genesis.specs.declared.genesis_fields.FirstAccount.{FirstAccount}
 use Rattle.al_genesis.specs.Genesis.{addresses_of, first_row}
 use Rattle.al_eval.specs.Start.{and_accounts, start, start_rows, start_totals, with_account, with_accounts}

@@ -1,6 +1,7 @@
 -- What a step that ended answers.
-use Rattle.std.proofs.Common.{◌≡◌, ◌∙◌, ◌≤◌, ◌<◌, ◌+◌, ◌-◌, ◌^◌, sym, ap, ap₂, subst, arith, ℕ, List, map, Result, Ok, Err}
+use Rattle.std.proofs.Common.{All, slice_index_or, ◌≡◌, ◌∙◌, ◌≤◌, ◌<◌, ◌+◌, ◌-◌, ◌^◌, sym, ap, ap₂, subst, arith, ℕ, List, map, Result, Ok, Err}
 use Rattle.al_base.specs.declared.account.Status.TheVariants.{Offline, Online}
+use Rattle.al_base.specs.declared.key.CreatorChange.{CreatorChange}
 use Rattle.al_block.specs.declared.block.Block.{Block}
 use Rattle.al_block.specs.declared.header.Header.{Header}
 use Rattle.al_deltas.specs.declared.delta.RoundDelta.{RoundDelta}
@@ -8,24 +9,35 @@ use Rattle.al_rows.specs.Limits.{max_balance}
 use Rattle.al_rewards.specs.declared.totals.Totals.{Totals}
 use Rattle.al_rewards.specs.Totals.{AreTotals, all_units, capped, raised}
 use Rattle.al_rows.specs.Rows.{RowMap, bare}
-use Rattle.al_moves.specs.Rules.{then_do}
+use Rattle.al_overlay.specs.Rules.{then_do}
 use Rattle.al_moves.specs.Changes.{AreChanges, change_of}
 use Rattle.al_moves.specs.Money.{IsWithin, money}
 use Rattle.al_moves.specs.Totals.{counts}
-use Rattle.al_moves.specs.Work.{Worked}
+use Rattle.al_overlay.specs.Work.{Worked}
 use Rattle.al_moves.proofs.Counts.{counts_fit, counts_raised, money_by, money_counted, total-le, units_by, units_within}
 use Rattle.al_eval.specs.declared.before.Before.{Before}
 use Rattle.al_eval.specs.declared.before.EvalRefusal.{EvalRefusal}
 use Rattle.al_eval.specs.declared.tail.Entry.{Entry}
 use Rattle.al_eval.specs.Past.{entry_of, live}
-use Rattle.al_eval.specs.Sound.{IsStep, IsStepRefusal, LeadsTo, Sound}
+use Rattle.al_moves.specs.Created.{AreCreatorChanges, creator_change_of}
+use Rattle.al_moves.specs.Online.{AreOnlineChanges, online_change_of}
+use Rattle.al_base.specs.declared.online.OnlineChange.{OnlineChange}
+use Rattle.al_overlay.specs.Work.{HasOneCreator}
+use Rattle.al_bodies.specs.declared.body.Body.{Body}
+use Rattle.al_bodies.specs.declared.body.Body.TheVariants as body
+use Rattle.al_txn.specs.declared.txn.Item.{Item}
+use Rattle.al_eval.specs.Body.{AsksOne, IsNumbered}
+use Rattle.al_eval.specs.Sound.{AreNumbered, IsStep, IsStepRefusal, LeadsTo, Sound}
 use Rattle.al_eval.specs.Refusals.{Refusal, Verdict, refused, failed, no_memory, refusal_of, IsDue}
-use Rattle.al_eval.specs.Answers.{Evals, TotalsFollow}
+use Rattle.al_eval.specs.Answers.{AskOne, CreatorsFollow, Evals, OnlineFollows, TotalsFollow}
+use Rattle.al_eval.specs.Expiry.{all_expired}
+use Rattle.al_eval.specs.Snaps.{snap_of}
 use Rattle.al_eval.specs.Steps.{block_rows}
 use Rattle.al_eval.specs.Pool.{units_before}
 use Rattle.al_eval.specs.State.{State, after, before_of, counts_in, step}
 use Rattle.al_eval.proofs.Sounds.{Leads, block_leads, block_refused, counts_after, due_of, step_keeps}
 use Rattle.al_eval.proofs.Lives.{items_live}
+use Rattle.al_eval.proofs.Onlines.{snap_follows}
 use Rattle.al_eval.specs.Header.{first_fault, header_checks, rewards_checks, payset_fault, counter_fault, unless_fault}
 use Rattle.al_eval.specs.Pool.{rewards_due, owed_by, pool_paid}
 use Rattle.al_eval.proofs.Chains.{bare_stamped}
@@ -60,6 +72,38 @@ totals_follow due s h old new risen totals d is block level raise count told n e
     let all = count one (subst (λ l. IsWithin l new.block) (sym level) (subst (IsWithin h.level) (sym block) before)) (subst (λ l. IsWithin l new.now) (sym level) (subst (IsWithin h.level) (sym now) after)) in
     told ∙ all ∙ ap₂ counts level now
 
+-- ---- the creators
+
+ask_one : (m : RowMap) → ((id : ℕ) → HasOneCreator m id) → (b : Body) → AsksOne m b
+ask_one m one (body.Pay p) = tt
+ask_one m one (body.KeyReg k) = tt
+ask_one m one (body.Config c) = one c.asset
+ask_one m one (body.Move t) = one t.asset
+ask_one m one (body.Freeze f) = one f.asset
+ask_one m one (body.App a) = tt
+
+-- where each id has at most one creator, so has each that a block asks for
+pub all_ask : (m : RowMap) (items : List Item) → ((id : ℕ) → HasOneCreator m id) → AskOne m items
+all_ask m items one = λ k d l. ask_one m one (slice_index_or items k d).txn.body
+
+-- the changes of a work's creators are those of the rows that are due
+pub creators_follow : (due : Result RowMap Refusal) (old before now : RowMap) (cs ds : List CreatorChange) → due ≡ Ok now → before ≡ old → ds ≡ cs → AreCreatorChanges before now (map creator_change_of cs) → (n : RowMap) → due ≡ Ok n → AreCreatorChanges old n (map creator_change_of ds)
+creators_follow due old before now cs ds is block same changes n e =
+    subst (λ xs. AreCreatorChanges old n (map creator_change_of xs)) (sym same) (subst (λ m. AreCreatorChanges m n (map creator_change_of cs)) block (subst (λ m. AreCreatorChanges before m (map creator_change_of cs)) (ok_is now n (sym is ∙ e)) changes))
+
+-- and so are those of what consensus knows of accounts
+pub online_follows : (due : Result RowMap Refusal) (old before now : RowMap) (cs ds : List OnlineChange) → due ≡ Ok now → before ≡ old → ds ≡ cs → AreOnlineChanges before now (map online_change_of cs) → (n : RowMap) → due ≡ Ok n → AreOnlineChanges old n (map online_change_of ds)
+online_follows due old before now cs ds is block same changes n e =
+    subst (λ xs. AreOnlineChanges old n (map online_change_of xs)) (sym same) (subst (λ m. AreOnlineChanges m n (map online_change_of cs)) block (subst (λ m. AreOnlineChanges before m (map online_change_of cs)) (ok_is now n (sym is ∙ e)) changes))
+
+-- a sound state has at most one creator of each id
+one_creator : (s : State) → Sound s → (id : ℕ) → HasOneCreator (bare s.rows) id
+one_creator s sound id = λ a b. sound.rows.resources.creators a b id
+
+-- the numbers of a block are those of its transactions
+pub numbered_of : (b : Block) (items : List Item) → items ≡ b.items → All (λ i. IsNumbered i.txn.body) items → AreNumbered b
+numbered_of b items e h = subst (All (λ i. IsNumbered i.txn.body)) e h
+
 -- ---- a step over a sound state
 
 -- the units of a sound state can be counted
@@ -79,11 +123,13 @@ fits_before : (s : State) (b : Block) (n : RowMap) → Leads s b n → IsWithin 
 unfolding IsWithin
 fits_before s b n leads = (leads.most, (let l = leads.within in omega arith))
 
-ok_step : (s : State) (b : Block) (d : RoundDelta) → Sound s → (n : RowMap) × (due_of s b ≡ Ok n) × AreChanges (bare s.rows) n (map change_of d.changes)
+ok_step : (s : State) (b : Block) (d : RoundDelta) → AreNumbered b → Sound s → (n : RowMap) × (due_of s b ≡ Ok n) × AreChanges (bare s.rows) n (map change_of d.changes)
+    → ((n : RowMap) → due_of s b ≡ Ok n → AreCreatorChanges (bare s.rows) n (map creator_change_of d.creators))
+    → ((n : RowMap) → due_of s b ≡ Ok n → AreOnlineChanges (bare s.rows) n (map online_change_of d.online))
     → ((n : RowMap) → due_of s b ≡ Ok n → raised b.header.level (counts_in s) ≡ counts b.header.level (bare s.rows) → IsWithin b.header.level (bare s.rows) → IsWithin b.header.level n → d.totals ≡ counts b.header.level n) → (t : State) × LeadsTo s b d t
 unfolding step
-ok_step s b d sound h follow =
-    let leads = block_leads s b h.0 sound h.1 in
+ok_step s b d numbered sound h created stakes follow =
+    let leads = block_leads s b h.0 numbered sound h.1 in
     let t = after s b h.0 in
     let fits = fits_before s b h.0 leads in
     let stepped : step s b ≡ Ok t = ap (λ d. then_do d (λ m. Ok (after s b m))) h.1 in (
@@ -91,9 +137,11 @@ ok_step s b d sound h follow =
       record {
         stepped = stepped;
         rows = subst (λ m. AreChanges (bare s.rows) m (map change_of d.changes)) (sym (bare_stamped b.header.round s.rows h.0)) h.2;
+        creators = subst (λ m. AreCreatorChanges (bare s.rows) m (map creator_change_of d.creators)) (sym (bare_stamped b.header.round s.rows h.0)) (created h.0 h.1);
         totals = follow h.0 h.1 (raised_before s b h.0 leads) fits.0 fits.1 ∙ sym (counts_after s b h.0);
+        online = ap (snap_of b.header.level) (bare_stamped b.header.round s.rows h.0) ∙ snap_follows s.header.level b.header.level (bare s.rows) h.0 d.online (stakes h.0 h.1);
         sound = leads.sound;
-        money = step_keeps s t b sound stepped;
+        money = step_keeps s t b numbered sound stepped;
       },
     )
 
@@ -101,15 +149,15 @@ due_err : (s : State) (b : Block) (r : Refusal) → due_of s b ≡ Err r → ste
 unfolding step
 due_err s b r e = ap (λ d. then_do d (λ m. Ok (after s b m))) e
 
-refused_step : (s : State) (b : Block) (v : Verdict) → Sound s → IsDue (due_of s b) v → IsStepRefusal s b v
-refused_step s b (refused r) sound h = (due_err s b r h, block_refused s b r sound h)
-refused_step s b failed sound h = tt
-refused_step s b no_memory sound h = tt
+refused_step : (s : State) (b : Block) (v : Verdict) → AreNumbered b → Sound s → IsDue (due_of s b) v → IsStepRefusal s b v
+refused_step s b (refused r) numbered sound h = (due_err s b r h, block_refused s b r numbered sound h)
+refused_step s b failed numbered sound h = tt
+refused_step s b no_memory numbered sound h = tt
 
 -- over what is due of a sound state
-sound_step : {F : Type 0} (s : State) (b : Block) (r : Result RoundDelta (EvalRefusal F)) → Sound s → Evals (due_of s b) (bare s.rows) r → TotalsFollow (due_of s b) (before_of s) b.header (bare s.rows) r → IsStep s b r
-sound_step s b (Ok d) sound h follow = ok_step s b d sound h follow
-sound_step s b (Err e) sound h follow = refused_step s b (refusal_of e) sound h
+sound_step : {F : Type 0} (s : State) (b : Block) (r : Result RoundDelta (EvalRefusal F)) → AreNumbered b → Sound s → Evals (due_of s b) (bare s.rows) r → CreatorsFollow (due_of s b) (bare s.rows) r → OnlineFollows (due_of s b) (bare s.rows) r → TotalsFollow (due_of s b) (before_of s) b.header (bare s.rows) r → IsStep s b r
+sound_step s b (Ok d) numbered sound h created stakes follow = ok_step s b d numbered sound h created stakes follow
+sound_step s b (Err e) numbered sound h created stakes follow = refused_step s b (refusal_of e) numbered sound h
 
 -- what is due depends on the live entries alone
 due_live : (known : Before) (units : ℕ) (tail past : List Entry) (b : Block) (m : RowMap) → live b.header.round tail ≡ live b.header.round past → block_rows known units tail b m ≡ block_rows known units past b m
@@ -120,15 +168,24 @@ due_live known units tail past b m alive = λ i.
     (λ m. then_do (pool_paid known.chain.special.pool (owed_by known units b.header) m)
     (λ m. then_do (unless_fault (payset_fault b) m)
     (λ m. then_do (items_live known.chain b.header.level b.header.round 0 tail past known.header.counter 0 b.items m alive i)
-    (λ n. unless_fault (counter_fault b.header n.counter) n.rows)))))
+    (λ n. then_do (all_expired b.header.round 0 b.header.expired n.rows)
+    (λ k. unless_fault (counter_fault b.header n.counter) k))))))
+
+-- what an answer says of what is due of rows
+abbrev Says : {F : Type 0} → Result RowMap Refusal → Before → Block → RowMap → Result RoundDelta (EvalRefusal F) → Type 0
+Says due known b rows r = Evals due rows r × CreatorsFollow due rows r × OnlineFollows due rows r × TotalsFollow due known b.header rows r
 
 -- `eval` over a sound state is the step
-pub eval_is_step : {F : Type 0} (known : Before) (tail : List Entry) (rows : RowMap) (b : Block) (r : Result RoundDelta (EvalRefusal F)) → Evals (block_rows known (units_before known) tail b rows) rows r → TotalsFollow (block_rows known (units_before known) tail b rows) known b.header rows r
+pub eval_is_step : {F : Type 0} (known : Before) (tail : List Entry) (rows : RowMap) (b : Block) (r : Result RoundDelta (EvalRefusal F)) → AreNumbered b
+    → (AskOne rows b.items → Evals (block_rows known (units_before known) tail b rows) rows r) → (((id : ℕ) → HasOneCreator rows id) → CreatorsFollow (block_rows known (units_before known) tail b rows) rows r)
+    → (AskOne rows b.items → OnlineFollows (block_rows known (units_before known) tail b rows) rows r)
+    → (AskOne rows b.items → TotalsFollow (block_rows known (units_before known) tail b rows) known b.header rows r)
     → (s : State) → known ≡ before_of s → live b.header.round tail ≡ live b.header.round (map entry_of s.past) → rows ≡ bare s.rows → Sound s → IsStep s b r
-eval_is_step known tail rows b r h follow s is alive told sound =
+eval_is_step known tail rows b r numbered h created stakes follow s is alive told sound =
     let due : block_rows known (units_before known) tail b rows ≡ due_of s b =
     due_live known (units_before known) tail (map entry_of s.past) b rows alive
     ∙ ap (λ (k : Before). block_rows k (units_before k) (map entry_of s.past) b rows) is ∙ ap (λ (m : RowMap). block_rows (before_of s) (units_before (before_of s)) (map entry_of s.past) b m) told ∙ due_before s b sound in
-    sound_step s b r sound
-    (subst (λ m. Evals (due_of s b) m r) told (subst (λ d. Evals d rows r) due h))
-    (subst (λ m. TotalsFollow (due_of s b) (before_of s) b.header m r) told (subst (λ (k : Before). TotalsFollow (due_of s b) k b.header rows r) is (subst (λ d. TotalsFollow d known b.header rows r) due follow)))
+    let one : (id : ℕ) → HasOneCreator rows id = subst (λ m. (id : ℕ) → HasOneCreator m id) (sym told) (one_creator s sound) in
+    let asks = all_ask rows b.items one in
+    let all : Says (due_of s b) (before_of s) b (bare s.rows) r = subst (λ m. Says (due_of s b) (before_of s) b m r) told (subst (λ (k : Before). Says (due_of s b) k b rows r) is (subst (λ d. Says d known b rows r) due (h asks, created one, stakes asks, follow asks))) in
+    sound_step s b r numbered sound all.0 all.1 all.2 all.3

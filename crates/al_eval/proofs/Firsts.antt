@@ -26,7 +26,7 @@ use Rattle.al_rows.specs.Finite.{set_at, total}
 use Rattle.al_rows.specs.Rows.{RowMap, bare, account, account_in, set_account, unless_zero, no_account}
 use Rattle.al_rows.proofs.Keys.{keys_total, exact_keys}
 use Rattle.al_rows.proofs.Maps.{get-map_entries, get-set_at}
-use Rattle.al_moves.specs.Accounts.{same_address, share_of}
+use Rattle.al_overlay.specs.Accounts.{same_address, share_of}
 use Rattle.al_moves.specs.Money.{worth, money}
 use Rattle.al_moves.proofs.Monies.{none_pending, money_set, same_is}
 use Rattle.al_genesis.specs.declared.genesis_fields.FirstAccount.{FirstAccount}
@@ -35,13 +35,14 @@ use Rattle.al_genesis.specs.Genesis.{addresses_of, has_special, balance_of, mone
 use Rattle.al_deltas.specs.Queue.{stored_at}
 use Rattle.al_eval.specs.Start.{with_account, with_accounts, start}
 use Rattle.al_moves.specs.Resources.{CountsAgree, owned, boxes_of, box_bytes_of, assets_held_in, assets_created_in, apps_created_in, apps_opted_in, extra_pages_in, uints_in, byte_slices_in}
-use Rattle.al_eval.specs.Sound.{SoundRows, ResourcesAgree, StartIsSound, holding_of, issued_of}
+use Rattle.al_resources.specs.Sound.{ResourcesAgree, SoundRows, holding_of, issued_of}
+use Rattle.al_eval.specs.Sound.{StartIsSound}
 use Rattle.al_eval.proofs.Steadies.{Keeps, AllBased, AllInRange, counts_of, at_set, at_unless, no_zero, other_account, keeps_account, keeps_on, keeps_itself}
 use Rattle.al_eval.proofs.Agrees.{resources_agree, counts_agree}
 
 -- ---- the rows of a genesis without their rounds
 
-abbrev seated : RowMap → List GenesisRow → RowMap
+abbrev pub seated : RowMap → List GenesisRow → RowMap
 seated m [] = m
 seated m (a ∷ more) = seated (set_account m a.address a.row) more
 
@@ -61,7 +62,7 @@ bare_set m k o = same_map keys_total exact_keys (bare (set_at m k (stored_at 0 o
     by_test true q o = row_back o
     by_test false q o = refl
 
-bare_accounts : (m : FinMap key_cmp Stored) (xs : List GenesisRow) → bare (with_accounts m xs) ≡ seated (bare m) xs
+pub bare_accounts : (m : FinMap key_cmp Stored) (xs : List GenesisRow) → bare (with_accounts m xs) ≡ seated (bare m) xs
 bare_accounts m [] = refl
 bare_accounts m (a ∷ xs) = bare_accounts (with_account m a) xs ∙ ap (λ n. seated n xs) (bare_set m (key.Account a.address) (unless_zero (row.Account a.row)))
 
@@ -149,21 +150,21 @@ less a b e = by_order (key_cmp (key.Account a) (key.Account b)) e
     by_order Equal e = absurd (let x : false ≡ true = e in cc)
     by_order Greater e = absurd (let x : false ≡ true = e in cc)
 
-abbrev AllAbove : Address → List FirstAccount → Type 0
+abbrev pub AllAbove : Address → List FirstAccount → Type 0
 AllAbove who xs = AllByRecursion (λ a. key_cmp (key.Account who) (key.Account a.address) ≡ Less) xs
 
 above_more : (a b : Address) (xs : List FirstAccount) → key_cmp (key.Account a) (key.Account b) ≡ Less → AllAbove b xs → AllAbove a xs
 above_more a b [] l h = tt
 above_more a b (x ∷ xs) l h = (keys_total.trans (key.Account a) (key.Account b) (key.Account x.address) l h.0, above_more a b xs l h.1)
 
-all_above : (a : FirstAccount) (xs : List FirstAccount) → rises (addresses_of (a ∷ xs)) ≡ true → AllAbove a.address xs
+pub all_above : (a : FirstAccount) (xs : List FirstAccount) → rises (addresses_of (a ∷ xs)) ≡ true → AllAbove a.address xs
 all_above a [] h = tt
 all_above a (b ∷ xs) h =
     let p = and_parts _ _ h in
     let l = less a.address b.address p.0 in
     (l, above_more a.address b.address xs l (all_above b xs p.1))
 
-rest_rises : (a : FirstAccount) (xs : List FirstAccount) → rises (addresses_of (a ∷ xs)) ≡ true → rises (addresses_of xs) ≡ true
+pub rest_rises : (a : FirstAccount) (xs : List FirstAccount) → rises (addresses_of (a ∷ xs)) ≡ true → rises (addresses_of xs) ≡ true
 rest_rises a [] h = refl
 rest_rises a (b ∷ xs) h = (and_parts _ _ h).1
 

@@ -1,6 +1,7 @@
 pub mod Marks
 pub mod Pasts
 pub mod Lives
+pub mod Asks
 pub mod Ends
 pub mod Nexts
 pub mod Chains
@@ -9,11 +10,15 @@ pub mod Steadies
 pub mod Agrees
 pub mod Others
 pub mod Wells
+pub mod Registers
 pub mod Bodies
+pub mod Expiries
 pub mod Runs
+pub mod Grouped
 pub mod Passes
 pub mod Rises
 pub mod Sounds
 pub mod Firsts
+pub mod Onlines
 pub mod Counted
 pub mod Starts

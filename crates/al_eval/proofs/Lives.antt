@@ -6,8 +6,8 @@ use Rattle.al_base.specs.declared.address.Address.{Address}
 use Rattle.al_rows.specs.Rows.{RowMap, same_bytes}
 use Rattle.al_txn.specs.declared.chain.Chain.{Chain}
 use Rattle.al_txn.specs.declared.txn.Item.{Item}
-use Rattle.al_moves.specs.declared.rule.Rule.{Rule}
-use Rattle.al_moves.specs.Rules.{then_do, plain_rule, unless_refused, held_until as rule_until}
+use Rattle.al_overlay.specs.declared.rule.Rule.{Rule}
+use Rattle.al_overlay.specs.Rules.{then_do, plain_rule, unless_refused, held_until as rule_until}
 use Rattle.al_eval.specs.declared.tail.Entry.{Entry}
 use Rattle.al_eval.specs.Past.{entry_of, live, has_id, later, later_of, greatest_last, holds_lease, is_no_lease, from_round, lease_until}
 use Rattle.al_eval.specs.Groups.{opened, size_of}

@@ -9,14 +9,14 @@ use Rattle.al_bodies.specs.declared.body.Body.{Body}
 use Rattle.al_txn.specs.declared.chain.Chain.{Chain}
 use Rattle.al_txn.specs.declared.txn.Txn.{Txn}
 use Rattle.al_txn.specs.declared.txn.Item.{Item}
-use Rattle.al_txn.specs.Form.{first_broken, common_tests, keyreg_tests, move_tests, config_tests, freeze_tests, tests_of, body_tests, form_fault}
-use Rattle.al_moves.specs.declared.rule.Rule.{Rule}
-use Rattle.al_moves.specs.Rules.{plain_rule}
+use Rattle.al_txn.specs.Form.{first_broken, common_tests, keyreg_tests, move_tests, config_tests, freeze_tests, call_tests, tests_of, body_tests, form_fault}
+use Rattle.al_overlay.specs.declared.rule.Rule.{Rule}
+use Rattle.al_overlay.specs.Rules.{plain_rule}
 use Rattle.al_eval.specs.declared.tail.Entry.{Entry}
 use Rattle.al_eval.specs.Past.{entry_of, has_id}
 use Rattle.al_eval.specs.Groups.{first_at, size_fault, form_rule, forms_fault, group_id_fault, pooled, pool_fault, group_fault, entered, needed, most_members}
 use Rattle.al_eval.specs.Items.{held_until, item_fault}
-use Rattle.al_eval.specs.Sound.{IsOtherRule}
+use Rattle.al_resources.specs.Sound.{IsOtherRule}
 use Rattle.al_bodies.specs.declared.body.Body.TheVariants as body
 
 abbrev pub IsOther : Option Rule → Type 0
@@ -36,18 +36,18 @@ few_common : (t : Txn) (c : Chain) → IfSome (first_broken (common_tests t c)) 
 unfolding common_tests
 few_common t c = first_few (common_tests t c) (few 1 39 refl, (few 2 38 refl, (few 3 37 refl, (few 4 36 refl, (few 5 35 refl, (few 6 34 refl, (few 7 33 refl, (few 8 32 refl, tt))))))))
 
-few_of : (t : Txn) (b : Body) → IfSome (first_broken (tests_of t b)) (λ n. n ≤ 40)
-unfolding keyreg_tests move_tests config_tests freeze_tests
-few_of t (body.Pay p) = first_few (tests_of t (body.Pay p)) (few 9 31 refl, tt)
-few_of t (body.KeyReg k) = first_few (keyreg_tests k t.last) (few 10 30 refl, (few 11 29 refl, (few 12 28 refl, (few 13 27 refl, (few 14 26 refl, tt)))))
-few_of t (body.Config c) = first_few (config_tests c) (few 17 23 refl, (few 18 22 refl, (few 19 21 refl, (few 20 20 refl, tt))))
-few_of t (body.Move m) = first_few (move_tests m) (few 15 25 refl, (few 16 24 refl, tt))
-few_of t (body.Freeze f) = first_few (freeze_tests f) (few 21 19 refl, (few 22 18 refl, tt))
-few_of t (body.App a) = tt
+few_of : (i : Item) (b : Body) → IfSome (first_broken (tests_of i b)) (λ n. n ≤ 40)
+unfolding keyreg_tests move_tests config_tests freeze_tests call_tests
+few_of i (body.Pay p) = first_few (tests_of i (body.Pay p)) (few 9 31 refl, tt)
+few_of i (body.KeyReg k) = first_few (keyreg_tests k i.txn.last) (few 10 30 refl, (few 11 29 refl, (few 12 28 refl, (few 13 27 refl, (few 14 26 refl, tt)))))
+few_of i (body.Config c) = first_few (config_tests c) (few 17 23 refl, (few 18 22 refl, (few 19 21 refl, (few 20 20 refl, tt))))
+few_of i (body.Move m) = first_few (move_tests m) (few 15 25 refl, (few 16 24 refl, tt))
+few_of i (body.Freeze f) = first_few (freeze_tests f) (few 21 19 refl, (few 22 18 refl, tt))
+few_of i (body.App a) = first_few (call_tests a.app i.effects) (few 23 17 refl, (few 24 16 refl, tt))
 
-few_body : (t : Txn) → IfSome (first_broken (body_tests t)) (λ n. n ≤ 40)
+few_body : (i : Item) → IfSome (first_broken (body_tests i)) (λ n. n ≤ 40)
 unfolding body_tests
-few_body t = few_of t t.body
+few_body i = few_of i i.txn.body
 
 either : {A : Type 0} (P : A → Type 0) (o p : Option A) → IfSome o P → IfSome p P → IfSome (option_or o p) P
 either P None p h g = g
@@ -81,7 +81,7 @@ first_other place None rest h g = g
 first_other place (Some r) rest h g = h
 
 form_other : (c : Chain) (i : Item) → IsOther (form_rule i c)
-form_other c i = plain_other (form_fault i c) (either (λ n. n ≤ 40) _ _ (few_common i.txn c) (few_body i.txn))
+form_other c i = plain_other (form_fault i c) (either (λ n. n ≤ 40) _ _ (few_common i.txn c) (few_body i))
 
 forms_other : (c : Chain) (place : ℕ) (is : List Item) → IsOtherAt (forms_fault c place is)
 forms_other c place [] = tt

@@ -5,15 +5,17 @@ use Rattle.al_block.specs.declared.header.Field.{Field}
 use Rattle.al_block.specs.declared.block.Block.{Block}
 use Rattle.al_rows.specs.Rows.{RowMap, account, set_account}
 use Rattle.al_rewards.specs.Next.{least_pool}
-use Rattle.al_moves.specs.Rules.{then_do}
+use Rattle.al_overlay.specs.Rules.{then_do}
 use Rattle.al_moves.specs.Money.{units}
 use Rattle.al_eval.specs.declared.before.Before.{Before}
 use Rattle.al_eval.specs.declared.tail.Entry.{Entry}
-use Rattle.al_eval.specs.Refusals.{Refusal, broken, header, pool_short}
+use Rattle.al_eval.specs.Refusals.{Refusal, broken, header, pool_short, expired}
 use Rattle.al_eval.specs.Header.{first_fault, header_checks, rewards_checks, payset_fault, counter_fault, unless_fault}
 use Rattle.al_eval.specs.Pool.{rewards_due, owed_by, pool_paid}
+use Rattle.al_eval.specs.Expiry.{all_expired}
 use Rattle.al_eval.specs.Items.{all_items, Ran}
 use Rattle.al_eval.specs.Steps.{block_rows}
+use Rattle.al_eval.proofs.Expiries.{then_expired}
 
 pub all_pass : (cs : List (Bool × Field)) → first_fault cs ≡ None → AllByRecursion (λ c. c.0 ≡ true) cs
 all_pass [] h = tt
@@ -41,9 +43,10 @@ items_of s units past b m = all_items s.chain b.header.level b.header.round 0 pa
 
 -- how a block comes to what is due
 abbrev pub BlockIs : Before → ℕ → List Entry → Block → RowMap → Result RowMap Refusal → Type 0
-BlockIs s units past b m (Ok n) = IsPassed s units b m × (is_short s units b m ≡ false) × ((r : Ran) × (items_of s units past b m ≡ Ok r) × (r.rows ≡ n) × (counter_fault b.header r.counter ≡ None))
+BlockIs s units past b m (Ok n) = IsPassed s units b m × (is_short s units b m ≡ false) × ((r : Ran) × (items_of s units past b m ≡ Ok r) × (all_expired b.header.round 0 b.header.expired r.rows ≡ Ok n) × (counter_fault b.header r.counter ≡ None))
 BlockIs s units past b m (Err (broken p r)) = IsPassed s units b m × (is_short s units b m ≡ false) × (items_of s units past b m ≡ Err (broken p r))
 BlockIs s units past b m (Err (header f)) = Unit {0}
+BlockIs s units past b m (Err (expired p)) = Unit {0}
 BlockIs s units past b m (Err (pool_short p o)) = IsPassed s units b m × ((is_short s units b m ≡ true) ⊎ (items_of s units past b m ≡ Err (pool_short p o)))
 
 then_none : (P : Result RowMap Refusal → Type 0) (o : Option Field) (m : RowMap) (f : RowMap → Result RowMap Refusal) → ((e : Field) → P (Err (header e))) → (o ≡ None → P (f m)) → P (then_do (unless_fault o m) f)
@@ -66,6 +69,7 @@ items_refused : (s : Before) (units : ℕ) (past : List Entry) (b : Block) (m : 
 items_refused s units past b m passed enough (broken p r) e = (passed, enough, e)
 items_refused s units past b m passed enough (header f) e = tt
 items_refused s units past b m passed enough (pool_short p o) e = (passed, inr e)
+items_refused s units past b m passed enough (expired p) e = tt
 
 pub block_is : (s : Before) (units : ℕ) (past : List Entry) (b : Block) (m : RowMap) → BlockIs s units past b m (block_rows s units past b m)
 unfolding block_rows pool_paid
@@ -76,5 +80,6 @@ block_is s units past b m =
     (λ r. let passed : IsPassed s units b m = record { header = all_pass (header_checks s b.header) h; rewards = all_pass (rewards_checks (rewards_due s b.header.round units m) b.header) r } in
     then_enough P (is_short s units b m) (pool_short (account m s.chain.special.pool).balance (owed_by s units b.header)) (after_pool s units b m) _ (λ short. (passed, inl short))
     (λ enough. then_none P (payset_fault b) (after_pool s units b m) _ (λ _. tt)
-    (λ _. then_each P (items_of s units past b m) (λ n. unless_fault (counter_fault b.header n.counter) n.rows) (items_refused s units past b m passed enough)
-    (λ n is. last_none P (counter_fault b.header n.counter) n.rows (λ _. tt) (λ c. (passed, enough, (n, is, refl, c))))))))
+    (λ _. then_each P (items_of s units past b m) (λ n. then_do (all_expired b.header.round 0 b.header.expired n.rows) (λ k. unless_fault (counter_fault b.header n.counter) k)) (items_refused s units past b m passed enough)
+    (λ n is. then_expired P b.header.round 0 b.header.expired n.rows (λ k. unless_fault (counter_fault b.header n.counter) k) (λ _. tt)
+    (λ k out. last_none P (counter_fault b.header n.counter) k (λ _. tt) (λ c. (passed, enough, (n, is, out, c)))))))))

@@ -19,9 +19,9 @@ use Rattle.al_rows.specs.Finite.{set_at, weight, total}
 use Rattle.al_rows.specs.Rows.{RowMap, account, account_in, set_account}
 use Rattle.al_rows.proofs.Keys.{keys_total, exact_keys}
 use Rattle.al_rows.proofs.Maps.{total-remove, weight-le-total}
-use Rattle.al_moves.specs.Accounts.{share_of}
+use Rattle.al_overlay.specs.Accounts.{share_of}
 use Rattle.al_moves.specs.Money.{IsExact, worth, money, units}
-use Rattle.al_moves.proofs.Overlays.{get-set, same_key}
+use Rattle.al_overlay.proofs.Overlays.{get-set, same_key}
 use Rattle.al_moves.proofs.Monies.{pending_apart, weight_account, worth-le-money, money_set, money_raised}
 use Rattle.al_eval.proofs.Steadies.{AllBased}
 

@@ -21,18 +21,24 @@ use Rattle.al_moves.specs.Money.{money, units, IsExact}
 use Rattle.al_moves.specs.Totals.{counts}
 use Rattle.al_eval.specs.declared.tail.Entry.{Entry}
 use Rattle.al_eval.specs.Past.{entry_of}
-use Rattle.al_eval.specs.Refusals.{Refusal, broken, header, pool_short}
+use Rattle.al_eval.specs.Refusals.{Refusal, broken, header, pool_short, expired}
+use Rattle.al_eval.specs.Expiry.{all_expired}
 use Rattle.al_eval.specs.Steps.{block_rows}
 use Rattle.al_eval.specs.Pool.{rewards_of, owed_by}
 use Rattle.al_eval.specs.Header.{header_checks, rewards_checks, counter_fault}
 use Rattle.al_eval.specs.State.{State, before_of, counts_in, after, step}
-use Rattle.al_eval.specs.Sound.{Sound, SoundRows, MayCome, StepIsSound}
+use Rattle.al_resources.specs.Kept.{Kept}
+use Rattle.al_resources.specs.Sound.{SoundRows}
+use Rattle.al_eval.specs.Sound.{AreNumbered, MayCome, Sound, StepIsSound}
+use Rattle.al_eval.specs.Body.{IsNumbered}
+use Rattle.std.proofs.lemmas.List.Elements.{recursion_from_All}
 use Rattle.al_eval.proofs.Chains.{bare_stamped, step_ok, step_err}
 use Rattle.al_eval.proofs.Passes.{IsPassed, BlockIs, is_short, after_pool, items_of, block_is}
 use Rattle.al_eval.proofs.Agrees.{rows_kept}
-use Rattle.al_eval.proofs.Bodies.{Kept}
 use Rattle.al_eval.proofs.Runs.{EndsAll, items_good}
+use Rattle.al_eval.proofs.Expiries.{expired_kept}
 use Rattle.al_eval.specs.Items.{Ran}
+use Rattle.al_txn.specs.declared.txn.Item.{Item}
 use Rattle.al_eval.proofs.Pools.{CanPay, due_until, can_pay}
 use Rattle.al_eval.proofs.Steadies.{Keeps, AllInRange, account_ranged, at_set, at_unless, no_zero, stays_set, keeps_account}
 use Rattle.al_moves.proofs.Counts.{units_counted}
@@ -49,7 +55,7 @@ same_rewards r d a b c e =
     ap (λ n. record r { level = n }) a ∙ ap (λ n. record r { level = d.level; rate = n }) b
     ∙ ap (λ n. record r { level = d.level; rate = d.rate; residue = n }) c ∙ ap (λ n. record r { level = d.level; rate = d.rate; residue = d.residue; recalc = n }) e
 
-module _ (s : State) (b : Block) (sound : Sound s) where
+module _ (s : State) (b : Block) (numbered : AreNumbered b) (sound : Sound s) where
   abbrev rows : RowMap
   rows = bare s.rows
 
@@ -153,32 +159,33 @@ module _ (s : State) (b : Block) (sound : Sound s) where
 
   -- what they leave
   good : IsPassed (before_of s) all b rows → EndsAll (Kept b.header.level s.chain.special paid) (items_of (before_of s) all tail b rows)
-  good h = items_good s.chain b.header.level b.header.round paid 0 tail s.header.counter 0 b.items paid tt (paid_kept h)
+  good h = items_good s.chain b.header.level b.header.round paid 0 tail s.header.counter 0 b.items paid tt (recursion_from_All (λ (i : Item). IsNumbered i.txn.body) b.items numbered) (paid_kept h)
 
-  ends : (r : Ran) → IsPassed (before_of s) all b rows → items_of (before_of s) all tail b rows ≡ Ok r → Kept b.header.level s.chain.special paid r.counter r.rows
-  ends r h is = subst (EndsAll (Kept b.header.level s.chain.special paid)) is (good h)
+  -- and what the accounts that expire leave of it
+  ends : (r : Ran) (n : RowMap) → IsPassed (before_of s) all b rows → items_of (before_of s) all tail b rows ≡ Ok r → all_expired b.header.round 0 b.header.expired r.rows ≡ Ok n → Kept b.header.level s.chain.special paid r.counter n
+  ends r n h is out = expired_kept b.header.level s.chain.special paid r.counter b.header.round 0 b.header.expired r.rows n out (subst (EndsAll (Kept b.header.level s.chain.special paid)) is (good h))
 
   refused_by : (e : Refusal) → IsPassed (before_of s) all b rows → items_of (before_of s) all tail b rows ≡ Err e → MayCome e
   refused_by e h is = subst (EndsAll (Kept b.header.level s.chain.special paid)) is (good h)
 
-  money_is : (r : Ran) → IsPassed (before_of s) all b rows → items_of (before_of s) all tail b rows ≡ Ok r → money b.header.level r.rows ≡ money s.header.level rows
-  money_is r h is = (ends r h is).money ∙ money_paid h
+  money_is : (r : Ran) (n : RowMap) → IsPassed (before_of s) all b rows → items_of (before_of s) all tail b rows ≡ Ok r → all_expired b.header.round 0 b.header.expired r.rows ≡ Ok n → money b.header.level n ≡ money s.header.level rows
+  money_is r n h is out = (ends r n h is out).money ∙ money_paid h
 
   -- the rows of the state after a block
   new_rows : (n : RowMap) → n ≡ bare (after s b n).rows
   new_rows n = sym (bare_stamped b.header.round s.rows n)
 
-  sound_after : (r : Ran) → IsPassed (before_of s) all b rows → items_of (before_of s) all tail b rows ≡ Ok r → counter_fault b.header r.counter ≡ None → Sound (after s b r.rows)
-  sound_after r h is counted =
+  sound_after : (r : Ran) (n : RowMap) → IsPassed (before_of s) all b rows → items_of (before_of s) all tail b rows ≡ Ok r → all_expired b.header.round 0 b.header.expired r.rows ≡ Ok n → counter_fault b.header r.counter ≡ None → Sound (after s b n)
+  sound_after r n h is out counted =
       let level = b.header.level in
-      let k = ends r h is in
+      let k = ends r n h is out in
       let p = pays h in
       let counter : r.counter ≡ b.header.counter = sym (eqb-true b.header.counter r.counter (none_if (nat_eq b.header.counter r.counter) field.Tc counted)) in
       record {
-        rows = subst (SoundRows level b.header.counter s.chain.special) (new_rows r.rows) (subst (λ n. SoundRows level n s.chain.special r.rows) counter k.rows);
+        rows = subst (SoundRows level b.header.counter s.chain.special) (new_rows n) (subst (λ count. SoundRows level count s.chain.special n) counter k.rows);
         interval = sound.interval;
         recalc = p.ahead;
-        fund = subst (λ m. due_until (rewards_of b.header) b.header.round ≤ (account m pool).balance) (new_rows r.rows) (omega (arith, p.still, pool_paid_is.1, k.pool));
+        fund = subst (λ m. due_until (rewards_of b.header) b.header.round ≤ (account m pool).balance) (new_rows n) (omega (arith, p.still, pool_paid_is.1, k.pool));
       }
 
 -- ---- blocks
@@ -205,34 +212,35 @@ pub record Leads (s : State) (b : Block) (n : RowMap) : Type 0 where
   pub within : money b.header.level n ≤ max_balance
   pub sound : Sound (after s b n)
 
-pub block_leads : (s : State) (b : Block) (n : RowMap) → Sound s → due_of s b ≡ Ok n → Leads s b n
-block_leads s b n sound e =
+pub block_leads : (s : State) (b : Block) (n : RowMap) → AreNumbered b → Sound s → due_of s b ≡ Ok n → Leads s b n
+block_leads s b n numbered sound e =
     let h = how_due s b (Ok n) e in
-    let p = pays s b sound h.0 in
-    let before = money_raised s b sound h.0 in
+    let p = pays s b numbered sound h.0 in
+    let before = money_raised s b numbered sound h.0 in
     let ran = h.2 in
-    let same : money b.header.level n ≡ money s.header.level (bare s.rows) = ap (money b.header.level) (sym ran.2) ∙ money_is s b sound ran.0 h.0 ran.1 in
+    let same : money b.header.level n ≡ money s.header.level (bare s.rows) = money_is s b numbered sound ran.0 n h.0 ran.1 ran.2 in
     record {
       rises = p.rises;
-      exact = exact s b sound h.0;
+      exact = exact s b numbered sound h.0;
       enough = p.enough;
       raised = before.0;
       most = omega (arith, before.0, before.1, sound.rows.money);
       same = same;
       within = omega (arith, same, sound.rows.money);
-      sound = subst (λ m. Sound (after s b m)) ran.2 (sound_after s b sound ran.0 h.0 ran.1 ran.3);
+      sound = sound_after s b numbered sound ran.0 n h.0 ran.1 ran.2 ran.3;
     }
 
 -- what refuses a block over a sound state
-block_short : (s : State) (b : Block) (has owed : ℕ) → Sound s → IsPassed (before_of s) (all_units (counts_in s)) b (bare s.rows)
+block_short : (s : State) (b : Block) (has owed : ℕ) → AreNumbered b → Sound s → IsPassed (before_of s) (all_units (counts_in s)) b (bare s.rows)
     → (is_short (before_of s) (all_units (counts_in s)) b (bare s.rows) ≡ true) ⊎ (items_of (before_of s) (all_units (counts_in s)) (map entry_of s.past) b (bare s.rows) ≡ Err (pool_short has owed)) → ⊥
-block_short s b has owed sound h (inl short) = not_short s b sound h short
-block_short s b has owed sound h (inr e) = refused_by s b sound (pool_short has owed) h e
+block_short s b has owed numbered sound h (inl short) = not_short s b numbered sound h short
+block_short s b has owed numbered sound h (inr e) = refused_by s b numbered sound (pool_short has owed) h e
 
-pub block_refused : (s : State) (b : Block) (r : Refusal) → Sound s → due_of s b ≡ Err r → MayCome r
-block_refused s b (broken place rule) sound e = let h = how_due s b (Err (broken place rule)) e in refused_by s b sound (broken place rule) h.0 h.2
-block_refused s b (header f) sound e = tt
-block_refused s b (pool_short has owed) sound e = let h = how_due s b (Err (pool_short has owed)) e in block_short s b has owed sound h.0 h.1
+pub block_refused : (s : State) (b : Block) (r : Refusal) → AreNumbered b → Sound s → due_of s b ≡ Err r → MayCome r
+block_refused s b (broken place rule) numbered sound e = let h = how_due s b (Err (broken place rule)) e in refused_by s b numbered sound (broken place rule) h.0 h.2
+block_refused s b (header f) numbered sound e = tt
+block_refused s b (expired place) numbered sound e = tt
+block_refused s b (pool_short has owed) numbered sound e = let h = how_due s b (Err (pool_short has owed)) e in block_short s b has owed numbered sound h.0 h.1
 
 -- the counts of the state after it are those of these rows
 pub counts_after : (s : State) (b : Block) (n : RowMap) → counts_in (after s b n) ≡ counts b.header.level n
@@ -240,19 +248,19 @@ counts_after s b n = ap (counts b.header.level) (bare_stamped b.header.round s.r
 
 -- ---- steps
 
-pub step_sound : (s t : State) (b : Block) → Sound s → step s b ≡ Ok t → Sound t
+pub step_sound : (s t : State) (b : Block) → AreNumbered b → Sound s → step s b ≡ Ok t → Sound t
 unfolding step
-step_sound s t b sound e = let h = step_ok s t b (due_of s b) e in subst Sound h.2 (block_leads s b h.0 sound h.1).sound
+step_sound s t b numbered sound e = let h = step_ok s t b (due_of s b) e in subst Sound h.2 (block_leads s b h.0 numbered sound h.1).sound
 
-pub step_keeps : (s t : State) (b : Block) → Sound s → step s b ≡ Ok t → money t.header.level (bare t.rows) ≡ money s.header.level (bare s.rows)
+pub step_keeps : (s t : State) (b : Block) → AreNumbered b → Sound s → step s b ≡ Ok t → money t.header.level (bare t.rows) ≡ money s.header.level (bare s.rows)
 unfolding step
-step_keeps s t b sound e =
+step_keeps s t b numbered sound e =
     let h = step_ok s t b (due_of s b) e in
-    ap (λ (u : State). money u.header.level (bare u.rows)) (sym h.2) ∙ ap (money b.header.level) (bare_stamped b.header.round s.rows h.0) ∙ (block_leads s b h.0 sound h.1).same
+    ap (λ (u : State). money u.header.level (bare u.rows)) (sym h.2) ∙ ap (money b.header.level) (bare_stamped b.header.round s.rows h.0) ∙ (block_leads s b h.0 numbered sound h.1).same
 
-pub step_refused : (s : State) (b : Block) (r : Refusal) → Sound s → step s b ≡ Err r → MayCome r
+pub step_refused : (s : State) (b : Block) (r : Refusal) → AreNumbered b → Sound s → step s b ≡ Err r → MayCome r
 unfolding step
-step_refused s b r sound e = block_refused s b r sound (step_err s b (due_of s b) r e)
+step_refused s b r numbered sound e = block_refused s b r numbered sound (step_err s b (due_of s b) r e)
 
 pub step_is_sound : StepIsSound
 step_is_sound = record {

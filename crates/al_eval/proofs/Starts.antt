@@ -18,9 +18,9 @@ use Rattle.al_rows.specs.Rows.{AccountInRange, IsKept, is_zero, unless_zero}
 use Rattle.al_rows.proofs.Keys.{keys_total, exact_keys}
 use Rattle.al_rows.proofs.Maps.{find-lookup, get-set_at}
 use Rattle.al_rows.proofs.Views.{get-of_entries, sorted}
-use Rattle.al_moves.specs.Held.{at}
-use Rattle.al_moves.proofs.Overlays.{turned_at, same_key}
-use Rattle.al_moves.proofs.Firsts.{each_found, all_more}
+use Rattle.al_overlay.specs.Held.{at}
+use Rattle.al_overlay.proofs.Overlays.{turned_at, same_key}
+use Rattle.al_overlay.proofs.Firsts.{each_found, all_more}
 use Rattle.al_genesis.specs.declared.genesis_fields.FirstAccount.{FirstAccount}
 use Rattle.al_genesis.specs.declared.genesis.GenesisRow.{GenesisRow}
 use Rattle.al_genesis.specs.declared.genesis.Genesis.{Genesis}
@@ -29,7 +29,7 @@ use Rattle.al_deltas.specs.Queue.{stored_at}
 use Rattle.al_eval.specs.Start.{with_accounts, and_accounts, start_totals}
 use Rattle.al_base.specs.declared.account.Status.{Status}
 use Rattle.al_base.specs.declared.account.Status.TheVariants.{Offline, Online, NotParticipating}
-use Rattle.al_moves.specs.Accounts.{share_of}
+use Rattle.al_overlay.specs.Accounts.{share_of}
 use Rattle.al_rewards.specs.declared.totals.Count.{Count}
 use Rattle.al_rewards.specs.declared.totals.Totals.{Totals}
 use Rattle.al_rewards.specs.Totals.{AreTotals, IsCount, and_count, and_share, count_of, plus}

@@ -15,18 +15,19 @@ use Rattle.al_rows.specs.declared.account.AccountRow.{AccountRow}
 use Rattle.al_rows.specs.declared.row.Row.{Row}
 use Rattle.al_rows.specs.declared.row.Row.TheVariants as row
 use Rattle.al_rows.specs.Finite.{set_at, weight, total}
-use Rattle.al_rows.specs.Rows.{RowMap, InRange, AccountInRange, CountsInRange, is_zero, is_zero_account, unless_zero, account, account_in, set_account, no_account, no_address}
+use Rattle.al_rows.specs.Rows.{RowMap, AccountInRange, CountsInRange, is_zero, is_zero_account, unless_zero, account, account_in, set_account, no_account, no_address}
 use Rattle.al_rows.proofs.Keys.{keys_total, exact_keys}
 use Rattle.al_rows.proofs.Maps.{total-set_at}
 use Rattle.al_rows.proofs.Sames.{account_true}
 use Rattle.al_bodies.specs.declared.body.Pay.{Pay}
-use Rattle.al_moves.specs.declared.rule.Rule.{Rule}
-use Rattle.al_moves.specs.Rules.{then_do, unless_refused, of_account, too_little}
-use Rattle.al_moves.specs.Accounts.{same_address, credited, earned, put_account, give, take_in, moved}
+use Rattle.al_overlay.specs.declared.rule.Rule.{Rule}
+use Rattle.al_overlay.specs.Rules.{then_do, unless_refused, of_account, too_little}
+use Rattle.al_overlay.specs.Accounts.{same_address, credited, earned, put_account, give, take_in, moved}
 use Rattle.al_moves.specs.Pay.{has_no_counts, closed_at, closed, paid_amount, paid_close, paid, rekeyed}
 use Rattle.al_moves.specs.Minimum.{first_shortfall, checked}
-use Rattle.al_moves.proofs.Overlays.{get-set, same_key}
+use Rattle.al_overlay.proofs.Overlays.{get-set, same_key}
 use Rattle.al_moves.proofs.Monies.{same_is, shortfall_number}
+use Rattle.al_resources.specs.Sound.{FieldsInRange}
 
 -- ---- rows with one set
 
@@ -170,7 +171,7 @@ IsForOthers w = (who : Address) (r : Row) → w (key.Account who) r ≡ 0
 
 -- each row is of its key's kind, and in its ranges
 abbrev pub AllInRange : RowMap → Type 0
-AllInRange m = (k : Key) (r : Row) → get m k ≡ Some r → InRange k r
+AllInRange m = (k : Key) (r : Row) → get m k ≡ Some r → FieldsInRange k r
 
 pub record Keeps (level : ℕ) (m n : RowMap) : Type 0 where
   pub resources : (who : Address) (id : ℕ) → get n (key.Resource who id) ≡ get m (key.Resource who id)
@@ -187,13 +188,13 @@ no_resource : (a who : Address) (id : ℕ) → key.Account a ≡ key.Resource wh
 no_resource a who id e = cc
 
 keeps_set : (level : ℕ) (m : RowMap) (a : Address) (o : Option Row) → counts_of (account_in o) ≡ counts_of (account m a) → (AllBased level m → (r : AccountRow) → o ≡ Some (row.Account r) → is_apart r.status ≡ false → r.base ≤ level)
-    → (AllInRange m → (r : Row) → o ≡ Some r → InRange (key.Account a) r) → Keeps level m (set_at m (key.Account a) o)
+    → (AllInRange m → (r : Row) → o ≡ Some r → FieldsInRange (key.Account a) r) → Keeps level m (set_at m (key.Account a) o)
 keeps_set level m a o counts base range = record {
   resources = λ who id. at_set (λ p. p ≡ get m (key.Resource who id)) m (key.Account a) o (key.Resource who id) (λ e. absurd (no_resource a who id e)) (λ _. refl);
   sums = λ w h. omega (arith, total-set_at keys_total exact_keys w m (key.Account a) o, none_weighs w h a o, none_weighs w h a (get m (key.Account a)));
   counts = λ who. at_set (λ p. counts_of (account_in p) ≡ counts_of (account m who)) m (key.Account a) o (key.Account who) (λ e. counts ∙ ap (λ k. counts_of (account_in (get m k))) e) (λ _. refl);
   bases = λ all k r. at_set (λ p. p ≡ Some (row.Account r) → is_apart r.status ≡ false → r.base ≤ level) m (key.Account a) o k (λ _. base all r) (λ _. all k r);
-  ranges = λ all k r. at_set (λ p. p ≡ Some r → InRange k r) m (key.Account a) o k (λ e is. subst (λ q. InRange q r) e (range all r is)) (λ _. all k r);
+  ranges = λ all k r. at_set (λ p. p ≡ Some r → FieldsInRange k r) m (key.Account a) o k (λ e is. subst (λ q. FieldsInRange q r) e (range all r is)) (λ _. all k r);
 }
 
 -- ---- ranges
@@ -212,7 +213,7 @@ none_ranged = record {
 }
 
 -- an account that is read back is in its ranges
-pub account_ranged : (a : Address) (o : Option Row) → ((r : Row) → o ≡ Some r → InRange (key.Account a) r) → AccountInRange (account_in o)
+pub account_ranged : (a : Address) (o : Option Row) → ((r : Row) → o ≡ Some r → FieldsInRange (key.Account a) r) → AccountInRange (account_in o)
 account_ranged a None h = (omega arith, none_ranged)
 account_ranged a (Some (row.Account r)) h = h (row.Account r) refl
 account_ranged a (Some (row.Asset x)) h = absurd (h (row.Asset x) refl)
@@ -246,7 +247,7 @@ pub keeps_account : (level : ℕ) (m : RowMap) (a : Address) (r : AccountRow) �
 keeps_account level m a r counts base most = keeps_set level m a (unless_zero (row.Account r))
     (at_unless (λ s. counts_of s ≡ counts_of (account m a)) r counts (λ e. sym (ap counts_of e) ∙ counts))
     (λ all s e. subst (λ (q : AccountRow). is_apart q.status ≡ false → q.base ≤ level) (is_row (is_zero (row.Account r)) r s e) (base all))
-    (λ all s e. subst (λ q. InRange (key.Account a) q) (some_is (is_zero (row.Account r)) (row.Account r) s e) (most all, counts_ranged r (account m a) counts (account_ranged a (get m (key.Account a)) (all (key.Account a))).1))
+    (λ all s e. subst (λ q. FieldsInRange (key.Account a) q) (some_is (is_zero (row.Account r)) (row.Account r) s e) (most all, counts_ranged r (account m a) counts (account_ranged a (get m (key.Account a)) (all (key.Account a))).1))
 
 counts_credited : (level : ℕ) (r : AccountRow) (b : ℕ) → counts_of (record (credited level r) { balance = b }) ≡ counts_of r
 counts_credited level r b = elim (is_apart r.status) as (λ (t : Bool). counts_of (record (if t then r else record r { balance = r.balance + earned level r; base = level }) { balance = b }) ≡ counts_of r) [ true ↦ refl | false ↦ refl ]

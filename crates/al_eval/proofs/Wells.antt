@@ -8,9 +8,9 @@ use Rattle.al_bodies.specs.declared.body.Body.{Body}
 use Rattle.al_txn.specs.declared.chain.Chain.{Chain}
 use Rattle.al_txn.specs.declared.txn.Item.{Item}
 use Rattle.al_txn.specs.Form.{first_broken, common_tests, body_tests, form_fault, bytes_eq, address_eq, is_barred}
-use Rattle.al_moves.specs.declared.rule.Rule.{Rule}
-use Rattle.al_moves.specs.Rules.{plain_rule}
-use Rattle.al_moves.specs.Accounts.{same_address}
+use Rattle.al_overlay.specs.declared.rule.Rule.{Rule}
+use Rattle.al_overlay.specs.Rules.{plain_rule}
+use Rattle.al_overlay.specs.Accounts.{same_address}
 use Rattle.al_eval.specs.Groups.{first_at, size_fault, form_rule, forms_fault, group_fault, entered, left_after}
 use Rattle.std.specs.Cmp.Lexicographic.{nat_list_eq_equiv}
 use Rattle.al_base.specs.declared.address.Address.{Address}
@@ -57,7 +57,7 @@ not_first false b h e = refl
 form_well : (i : Item) (c : Chain) → form_fault i c ≡ None → IsWell c i.txn.sender i.txn.body
 unfolding common_tests
 form_well i c h =
-    let each = none_broken (common_tests i.txn c) (none_first (first_broken (common_tests i.txn c)) (first_broken (body_tests i.txn)) h).0 in
+    let each = none_broken (common_tests i.txn c) (none_first (first_broken (common_tests i.txn c)) (first_broken (body_tests i)) h).0 in
     record { pool = each.1.0; sink = λ e. not_first _ _ each.1.1.1.1.1.1.1.0 (barred c.special.pool i.txn.body e) }
 
 abbrev pub AllWell : Chain → List Item → Type 0

@@ -1,13 +1,17 @@
 -- What the body of a transaction does.
-use Rattle.std.specs.Prelude.{ℕ}
+use Rattle.std.specs.Prelude.{ℕ, ⊤}
+use Rattle.std.specs.declared.option.Option.TheVariants.{Some}
 use Rattle.std.specs.declared.result.Result.{Result}
 use Rattle.std.specs.declared.result.Result.TheVariants.{Ok}
-use Rattle.al_rows.specs.Rows.{RowMap}
+use Rattle.al_rows.specs.Rows.{AssetParamsInRange, RowMap}
 use Rattle.al_bodies.specs.declared.body.Body.{Body}
 use Rattle.al_bodies.specs.declared.body.Body.TheVariants as body
 use Rattle.al_txn.specs.declared.txn.Item.{Item}
-use Rattle.al_moves.specs.declared.rule.Rule.{Rule}
+use Rattle.al_overlay.specs.declared.rule.Rule.{Rule}
+use Rattle.al_moves.specs.Keys.{keyed}
 use Rattle.al_moves.specs.Pay.{paid}
+use Rattle.al_overlay.specs.Work.{HasOneCreator}
+use Rattle.al_resources.specs.Assets.{configured, frozen, transferred}
 
 -- where a transaction stands: the reward level, the round, the number that it gives to what it creates, and its entry of the payset
 pub record Context : Type 0 where
@@ -16,7 +20,29 @@ pub record Context : Type 0 where
   pub next : ℕ
   pub item : Item
 
--- what a body does. Bodies other than payments are not given yet
+-- what a body does. Calls of applications are not given yet
 abbrev pub done_by : Body → Context → RowMap → Result RowMap Rule
 done_by (body.Pay p) x m = paid x.level x.item.txn.sender p m
-done_by b x m = Ok m
+done_by (body.KeyReg k) x m = keyed x.round x.item.txn.sender k m
+done_by (body.Config c) x m = configured x.item.txn.sender c x.next m
+done_by (body.Move t) x m = transferred x.item.txn.sender t m
+done_by (body.Freeze f) x m = frozen x.item.txn.sender f m
+done_by (body.App a) x m = Ok m
+
+-- an id whose creator a body asks for had at most one before the block, as in every sound state
+abbrev pub AsksOne : RowMap → Body → Type 0
+AsksOne m (body.Pay p) = ⊤
+AsksOne m (body.KeyReg k) = ⊤
+AsksOne m (body.Config c) = HasOneCreator m c.asset
+AsksOne m (body.Move t) = HasOneCreator m t.asset
+AsksOne m (body.Freeze f) = HasOneCreator m f.asset
+AsksOne m (body.App a) = ⊤
+
+-- the numbers of what a body creates have 64 bits
+abbrev pub IsNumbered : Body → Type 0
+IsNumbered (body.Pay p) = ⊤
+IsNumbered (body.KeyReg k) = ⊤
+IsNumbered (body.Config c) = AssetParamsInRange (Some c.params)
+IsNumbered (body.Move t) = ⊤
+IsNumbered (body.Freeze f) = ⊤
+IsNumbered (body.App a) = ⊤

@@ -14,8 +14,8 @@ use Rattle.al_txn.specs.declared.chain.Chain.{Chain}
 use Rattle.al_txn.specs.declared.txn.Item.{Item}
 use Rattle.al_txn.specs.Form.{form_fault}
 use Rattle.al_txn.specs.Ids.{group_id_of}
-use Rattle.al_moves.specs.declared.rule.Rule.{Rule}
-use Rattle.al_moves.specs.Rules.{plain_rule, too_few}
+use Rattle.al_overlay.specs.declared.rule.Rule.{Rule}
+use Rattle.al_overlay.specs.Rules.{plain_rule, too_few}
 use Rattle.al_eval.specs.Refusals.{Refusal, broken}
 
 -- ---- how many transactions there are

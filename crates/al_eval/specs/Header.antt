@@ -11,7 +11,7 @@ use Rattle.al_block.specs.declared.block.Block.{Block}
 use Rattle.al_block.specs.Hashes.{payset_hash_of}
 use Rattle.al_rewards.specs.declared.state.RewardsState.{RewardsState}
 use Rattle.al_rows.specs.Rows.{RowMap, same_bytes}
-use Rattle.al_moves.specs.Accounts.{same_address}
+use Rattle.al_overlay.specs.Accounts.{same_address}
 use Rattle.al_eval.specs.declared.before.Before.{Before}
 use Rattle.al_eval.specs.Refusals.{Refusal, header}
 

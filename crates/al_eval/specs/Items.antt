@@ -9,9 +9,9 @@ use Rattle.al_rows.specs.Rows.{RowMap, same_bytes}
 use Rattle.al_txn.specs.declared.chain.Chain.{Chain}
 use Rattle.al_txn.specs.declared.txn.Txn.{Txn}
 use Rattle.al_txn.specs.declared.txn.Item.{Item}
-use Rattle.al_moves.specs.declared.rule.Rule.{Rule}
-use Rattle.al_moves.specs.Rules.{then_do, plain_rule, held_until as rule_until, unless_refused}
-use Rattle.al_moves.specs.Accounts.{moved}
+use Rattle.al_overlay.specs.declared.rule.Rule.{Rule}
+use Rattle.al_overlay.specs.Rules.{then_do, plain_rule, held_until as rule_until, unless_refused}
+use Rattle.al_overlay.specs.Accounts.{moved}
 use Rattle.al_moves.specs.Pay.{rekeyed}
 use Rattle.al_moves.specs.Minimum.{checked}
 use Rattle.al_eval.specs.declared.tail.Entry.{Entry}

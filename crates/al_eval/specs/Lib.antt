@@ -6,10 +6,13 @@ pub mod Pool
 pub mod Groups
 pub mod Body
 pub mod Items
+pub mod Grouped
+pub mod Expiry
 pub mod Steps
 pub mod Turns
 pub mod Answers
 pub mod Evaluated
+pub mod Snaps
 pub mod State
 pub mod Start
 pub mod Sound

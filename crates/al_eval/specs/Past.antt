@@ -4,7 +4,7 @@ use Rattle.std.specs.declared.option.Option.{Option}
 use Rattle.std.specs.declared.option.Option.TheVariants.{None, Some}
 use Rattle.al_base.specs.declared.address.Address.{Address}
 use Rattle.al_rows.specs.Rows.{same_bytes}
-use Rattle.al_moves.specs.Accounts.{same_address}
+use Rattle.al_overlay.specs.Accounts.{same_address}
 use Rattle.al_txn.specs.declared.txn.Txn.{Txn}
 use Rattle.al_txn.specs.Ids.{txid_of}
 use Rattle.al_eval.specs.declared.tail.Entry.{Entry}

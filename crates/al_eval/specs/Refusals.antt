@@ -4,15 +4,16 @@ use Rattle.std.specs.declared.result.Result.{Result}
 use Rattle.std.specs.declared.result.Result.TheVariants.{Ok, Err}
 use Rattle.al_base.specs.Causes.{Rose}
 use Rattle.al_block.specs.declared.header.Field.{Field}
-use Rattle.al_moves.specs.declared.rule.Rule.{Rule}
+use Rattle.al_overlay.specs.declared.rule.Rule.{Rule}
 use Rattle.al_eval.specs.declared.before.EvalRefusal.{EvalRefusal}
 use Rattle.al_eval.specs.declared.before.EvalRefusal.TheVariants as answer
 
--- why a block is refused: a transaction breaks a rule, a header field is not what is due, or the pool would keep less than its least
+-- why a block is refused: a transaction breaks a rule, a header field is not what is due, the pool would keep less than its least, or the keys of a listed account have not expired
 pub data Refusal : Type 0 where
   broken : (place : ℕ) (rule : Rule) → Refusal
   header : (field : Field) → Refusal
   pool_short : (pool owed : ℕ) → Refusal
+  expired : (place : ℕ) → Refusal
 
 -- what a refusal of the code stands for: one of the step, a failure of the view, or want of memory
 pub data Verdict : Type 0 where
@@ -24,6 +25,7 @@ abbrev pub refusal_of : {F : Type 0} → EvalRefusal F → Verdict
 refusal_of (answer.Broken place rule) = refused (broken place rule)
 refusal_of (answer.Header f) = refused (header f)
 refusal_of (answer.PoolShort pool owed) = refused (pool_short pool owed)
+refusal_of (answer.Expired place) = refused (expired place)
 refusal_of (answer.View f) = failed
 refusal_of answer.Memory = no_memory
 

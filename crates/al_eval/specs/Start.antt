@@ -1,19 +1,24 @@
 -- The state that a genesis begins.
-use Rattle.std.specs.Prelude.{List, [], ◌∷◌}
-use Rattle.std.specs.FinMap.{FinMap, from_entries}
+use Rattle.std.specs.Prelude.{List, [], ◌∷◌, map}
+use Rattle.std.specs.FinMap.{FinMap, empty, from_entries, insert}
 use Rattle.al_base.specs.declared.key.Key.TheVariants.{Account}
+use Rattle.al_base.specs.declared.online.OnlineChange.{OnlineChange}
 use Rattle.al_base.specs.Keys.{key_cmp}
 use Rattle.std.specs.declared.option.Option.TheVariants.{Some}
-use Rattle.al_moves.specs.Accounts.{share_of}
+use Rattle.al_block.specs.declared.header.Header.{Header}
+use Rattle.al_overlay.specs.Accounts.{share_of}
+use Rattle.al_moves.specs.Online.{online_of}
 use Rattle.al_rewards.specs.declared.totals.Totals.{Totals}
 use Rattle.al_rewards.specs.Totals.{and_share, no_totals}
 use Rattle.al_rows.specs.declared.row.Row.TheVariants as row
 use Rattle.al_rows.specs.declared.stored.Stored.{Stored}
 use Rattle.al_rows.specs.Finite.{set_at}
-use Rattle.al_rows.specs.Rows.{unless_zero}
+use Rattle.al_txn.specs.declared.chain.Chain.{Chain}
+use Rattle.al_rows.specs.Rows.{bare, unless_zero}
 use Rattle.al_genesis.specs.declared.genesis.GenesisRow.{GenesisRow}
 use Rattle.al_genesis.specs.declared.genesis.Genesis.{Genesis}
 use Rattle.al_deltas.specs.Queue.{stored_at}
+use Rattle.al_eval.specs.Snaps.{snap_of}
 use Rattle.al_eval.specs.State.{State}
 
 -- the rows with an account's, which no block has changed; a zero row is none
@@ -37,6 +42,14 @@ and_accounts t (a ∷ more) = and_accounts (and_share t (Some (share_of a.row)))
 abbrev pub start_totals : List GenesisRow → Totals
 start_totals accounts = and_accounts (no_totals 0) accounts
 
+-- what consensus knows of each account
+abbrev pub start_online : List GenesisRow → List OnlineChange
+start_online accounts = map (λ a. record { address = a.address; now = online_of a.row }) accounts
+
+-- a state of round 0 with these rows
+abbrev pub first_state : Chain → Header → FinMap key_cmp Stored → State
+first_state chain header rows = record { chain = chain; header = header; rows = rows; past = []; snaps = insert empty 0 (snap_of header.level (bare rows)) }
+
 -- the state of round 0
 abbrev pub start : Genesis → State
-start g = record { chain = g.chain; header = g.header; rows = start_rows g.accounts; past = [] }
+start g = first_state g.chain g.header (start_rows g.accounts)

@@ -4,7 +4,7 @@ use Rattle.std.specs.declared.option.Option.{Option}
 use Rattle.std.specs.declared.option.Option.TheVariants.{None, Some}
 use Rattle.std.specs.declared.result.Result.{Result}
 use Rattle.std.specs.declared.result.Result.TheVariants.{Ok, Err}
-use Rattle.std.specs.FinMap.{FinMap, get}
+use Rattle.std.specs.FinMap.{FinMap, get, insert}
 use Rattle.al_base.specs.declared.key.Key.{Key}
 use Rattle.al_base.specs.Keys.{key_cmp}
 use Rattle.al_block.specs.declared.header.Header.{Header}
@@ -18,20 +18,24 @@ use Rattle.al_rewards.specs.declared.totals.Totals.{Totals}
 use Rattle.al_rewards.specs.Totals.{all_units}
 use Rattle.al_txn.specs.declared.chain.Chain.{Chain}
 use Rattle.al_txn.specs.declared.txn.Txn.{Txn}
-use Rattle.al_moves.specs.Rules.{then_do}
+use Rattle.al_overlay.specs.Rules.{then_do}
 use Rattle.al_moves.specs.Changes.{AreChanges}
 use Rattle.al_moves.specs.Totals.{counts}
+use Rattle.al_online.specs.Laws.{Snaps}
+use Rattle.al_online.specs.Stakes.{Snap}
 use Rattle.al_eval.specs.declared.before.Before.{Before}
 use Rattle.al_eval.specs.Past.{entry_of}
 use Rattle.al_eval.specs.Refusals.{Refusal}
+use Rattle.al_eval.specs.Snaps.{snap_of}
 use Rattle.al_eval.specs.Steps.{block_rows}
 
--- what is fixed of the chain, the header of the last block, the rows with the rounds that changed them last, and all transactions so far in order
+-- what is fixed of the chain, the header of the last block, the rows with the rounds that changed them last, all transactions so far in order, and what consensus may ask of each round
 pub record State : Type 0 where
   pub chain : Chain
   pub header : Header
   pub rows : FinMap key_cmp Stored
   pub past : List Txn
+  pub snaps : Snaps
 
 -- the money and the units of all accounts, added up over all rows at the level of the last block
 abbrev pub counts_in : State → Totals
@@ -50,9 +54,14 @@ stamped round old now = map_entries (λ k r. record { row = r; changed = stamp r
 
 -- the state after a block with these rows
 abbrev pub after : State → Block → RowMap → State
-after s b m = record s { header = b.header; rows = stamped b.header.round s.rows m; past = s.past ++ map (λ i. i.txn) b.items }
+after s b m = record s {
+  header = b.header;
+  rows = stamped b.header.round s.rows m;
+  past = s.past ++ map (λ i. i.txn) b.items;
+  snaps = insert s.snaps b.header.round (snap_of b.header.level m);
+}
 
--- the step of a block: a new state, or the first refusal. It is the ledger's step where each transaction is a payment, and no account is listed as expired
+-- the step of a block: a new state, or the first refusal. It is the ledger's step where no transaction calls an application
 unfoldable pub step : State → Block → Result State Refusal
 step s b = then_do (block_rows (before_of s) (all_units (counts_in s)) (map entry_of s.past) b (bare s.rows)) (λ m. Ok (after s b m))
 
@@ -79,7 +88,19 @@ level_in (Err r) = 0
 abbrev pub level_at : State → List Block → ℕ → ℕ
 level_at s bs n = level_in (replay s (take n bs))
 
+-- what consensus may ask of the last round, by the rows of a state
+abbrev pub last_snap : State → Snap
+last_snap s = snap_of s.header.level (bare s.rows)
+
+-- a state keeps that of its last round
+abbrev pub KeepsLast : State → Type 0
+KeepsLast s = get s.snaps s.header.round ≡ Some (last_snap s)
+
 -- ---- laws
+
+-- each state after a block keeps what consensus may ask of its round
+abbrev pub StepKeepsLast : Type 0
+StepKeepsLast = (s t : State) (b : Block) → step s b ≡ Ok t → KeepsLast t
 
 -- what a block changes, put over the rows before, gives the rows after
 abbrev pub ChangesLead : Type 0

@@ -27,6 +27,9 @@ pub enum EvalRefusal<F> {
     Header { field: Field },
     /// The pool would keep less than 100,000 microAlgos if it paid what is owed.
     PoolShort { pool: u64, owed: u128 },
+    /// The account at a place of the list of those expired, counted from 0, is not online, or its
+    /// last round is 0 or not below the block's.
+    Expired { place: usize },
     /// The view has failed.
     View(F),
     /// There is no memory.

@@ -1,10 +1,11 @@
 //! The greatest last valid round under each id and each sender's lease.
-ghost use Rattle.std.specs.Prelude.{◌≡◌, false, Some, None, IsSome, OnOk, OnErr, cond};
+ghost use Rattle.std.specs.Prelude.{◌≡◌, Some, None, IfOk, IsSome, OnOk, OnErr, cond};
 ghost use Rattle.std.specs.BTreeMap.{is_at};
-ghost use Rattle.al_eval.specs.Past.{is_no_lease, later};
-ghost use Rattle.al_eval.specs.Latest.{at, id_mark, lease_mark, mark_cmp, raised};
+ghost use Rattle.al_eval.specs.Past.{later};
+ghost use Rattle.al_eval.specs.Latest.{Knows, at, mark_cmp, raised};
 
 use crate::Entry;
+use crate::tail::Kept;
 use al_base::{Address, Hash};
 use std::alloc::{AllocError, Global};
 use std::collections::BTreeMap;
@@ -41,14 +42,15 @@ impl Latest {
         self.rounds.get(mark).copied()
     }
 
-    // Puts a round under a mark. Only a new mark takes memory.
-    fn put(&mut self, mark: &Mark, last: u64) -> Result<(), AllocError>
+    // Puts a round under a mark, and gives the one that stood there. Only a new mark takes memory.
+    fn swap(&mut self, mark: &Mark, last: u64) -> Result<Option<u64>, AllocError>
+        ensures old { IfOk result (λ before. before ≡ at self.old.rounds.entries mark.now) }
         ensures ok { OnOk result ((q : _) → at self.new.rounds.entries q ≡ cond (is_at (mark_cmp mark.now) q) (Some last) (at self.old.rounds.entries q)) }
         ensures err { OnErr result (self.new.rounds.entries ≡ self.old.rounds.entries) }
         ensures absent { OnErr result (at self.old.rounds.entries mark.now ≡ None) }
     {
         match self.rounds.insert(*mark, last) {
-            Ok(_) => Ok(()),
+            Ok(before) => Ok(before),
             Err(_) => Err(AllocError),
         }
     }
@@ -67,56 +69,52 @@ impl Latest {
     {
         match before {
             Some(last) => {
-                let _ = self.put(mark, last);
+                let _ = self.swap(mark, last);
             }
             None => self.take_away(mark),
         }
     }
 
-    // The round under a mark, which is known, is at least this one from now on.
-    fn raise_one(&mut self, mark: &Mark, last: u64, before: Option<u64>) -> Result<(), AllocError>
-        requires { before ≡ at self.old.rounds.entries mark.now }
+    // The round under a mark is at least this one from now on. Gives the one that stood there.
+    fn raise_one(&mut self, mark: &Mark, last: u64) -> Result<Option<u64>, AllocError>
+        ensures old { IfOk result (λ before. before ≡ at self.old.rounds.entries mark.now) }
         ensures ok { OnOk result ((q : _) → at self.new.rounds.entries q ≡ cond (is_at (mark_cmp mark.now) q) (Some (later last (at self.old.rounds.entries mark.now))) (at self.old.rounds.entries q)) }
         ensures err { OnErr result (self.new.rounds.entries ≡ self.old.rounds.entries) }
     {
-        self.put(mark, later(last, before))
+        let before = self.swap(mark, last)?;
+        if let Some(other) = before {
+            if last < other {
+                let _ = self.swap(mark, other);
+            }
+        }
+        Ok(before)
     }
 
-    /// The rounds with one entry more, where it is known what stands under its marks. A refused
-    /// call leaves them.
-    pub fn raise(
-        &mut self,
-        entry: &Entry,
-        id_before: Option<u64>,
-        lease_before: Option<u64>,
-    ) -> Result<(), AllocError>
-        requires id { id_before ≡ at self.old.rounds.entries (id_mark entry.now) }
-        requires lease { is_no_lease entry.now.lease ≡ false → lease_before ≡ at self.old.rounds.entries (lease_mark entry.now) }
-        ensures ok { OnOk result ((q : _) → at self.new.rounds.entries q ≡ raised entry.now (at self.old.rounds.entries) q) }
+    /// The rounds with one entry more, and what stood under its marks. A refused call leaves them.
+    pub fn raise(&mut self, entry: Entry) -> Result<Kept, AllocError>
+        ensures kept { IfOk result (λ k. (k.entry ≡ entry) × Knows (at self.old.rounds.entries) k) }
+        ensures ok { OnOk result ((q : _) → at self.new.rounds.entries q ≡ raised entry (at self.old.rounds.entries) q) }
         ensures err { OnErr result ((q : _) → at self.new.rounds.entries q ≡ at self.old.rounds.entries q) }
     {
         let id = entry.id_mark();
-        self.raise_one(&id, entry.last, id_before)?;
+        let id_before = self.raise_one(&id, entry.last)?;
         if entry.has_no_lease() {
-            return Ok(());
+            return Ok(Kept {
+                entry,
+                id_before,
+                lease_before: None,
+            });
         }
-        let lease = entry.lease_mark();
-        match self.raise_one(&lease, entry.last, lease_before) {
-            Ok(()) => Ok(()),
+        match self.raise_one(&entry.lease_mark(), entry.last) {
+            Ok(lease_before) => Ok(Kept {
+                entry,
+                id_before,
+                lease_before,
+            }),
             Err(refused) => {
                 self.put_back(&id, id_before);
                 Err(refused)
             }
         }
-    }
-}
-
-// The later of a round and one that may be there.
-fn later(last: u64, other: Option<u64>) -> u64
-    ensures { result ≡ later last other }
-{
-    match other {
-        Some(other) => last.max(other),
-        None => last,
     }
 }

@@ -2,11 +2,13 @@
 #![tactic(auto)]
 
 mod before;
+mod expiry;
 mod group;
 mod header;
 mod latest;
 mod laws;
 mod lent;
+mod numbers;
 mod pool;
 mod run;
 mod start;
@@ -15,7 +17,10 @@ mod transact;
 
 pub use al_genesis::{Genesis, GenesisFault, GenesisRow, GenesisRows};
 pub use before::{Before, EvalRefusal};
-pub use laws::{changes_lead, rows_follow, start_is_counted, start_is_sound, step_is_sound};
+pub use laws::{
+    changes_lead, groups_are_items, items_are_grouped, rows_follow, snaps_are_kept,
+    start_is_counted, start_is_sound, step_is_sound,
+};
 pub use run::{Evaluated, eval, eval_with_entries};
-pub use start::{start_rows, start_totals};
+pub use start::{start_online, start_rows, start_totals};
 pub use tail::{Entry, Tail};

@@ -1,22 +1,27 @@
 //! The step of a block over a view.
-ghost use Rattle.std.specs.Prelude.{◌≡◌, ◌≤◌, ◌+◌, ◌^◌, true, Ok, IfOk, IfSome, OnOk, map, All};
+ghost use Rattle.std.specs.Prelude.{◌≡◌, ◌≤◌, ◌+◌, ◌^◌, ℕ, true, Ok, IfOk, IfSome, OnOk, map, All};
 ghost use Rattle.std.specs.Ordering.{nat_cmp};
 ghost use Rattle.std.specs.List.Sorted.{IsStrictlySortedBy};
 ghost use Rattle.al_base.specs.Keys.{address_cmp, key_cmp};
 ghost use Rattle.al_block.specs.Hashes.{payset_hash_of};
 ghost use Rattle.al_rows.specs.Rows.{IsKept, bare};
 ghost use Rattle.al_eval.specs.Past.{entry_of, live};
-ghost use Rattle.al_eval.specs.Sound.{IsStep, Sound};
+ghost use Rattle.al_moves.specs.Created.{AreCreatorChanges, creator_change_of};
+ghost use Rattle.al_moves.specs.Online.{AreOnlineChanges, online_change_of};
+ghost use Rattle.al_overlay.specs.Work.{HasOneCreator};
+ghost use Rattle.al_eval.specs.Sound.{AreNumbered, IsStep, Sound};
 ghost use Rattle.al_eval.specs.State.{State, before_of};
 ghost use Rattle.al_eval.specs.Refusals.{IsCounted};
 ghost use Rattle.al_eval.specs.Header.{counter_fault, payset_fault};
 ghost use Rattle.al_eval.specs.Pool.{units_before};
 ghost use Rattle.al_eval.specs.Steps.{block_rows};
-ghost use Rattle.al_eval.specs.Answers.{Evals, IsDeltaOf, Runs, TotalsFollow};
+ghost use Rattle.al_eval.specs.Answers.{AskOne, CreatorsFollow, Evals, IsDeltaOf, OnlineFollows, RunsWhere, Sees, TotalsFollow};
 ghost use Rattle.al_eval.specs.Evaluated.{delta_in};
 
+use crate::expiry::expire_all;
 use crate::header::{header_fault, rewards_fault};
 use crate::lent::Lent;
+use crate::numbers::numbers_fit;
 use crate::pool::{owed_by, pay_pool, rewards_due};
 use crate::tail::entries_with;
 use crate::transact::all_items;
@@ -24,7 +29,7 @@ use crate::{Before, Entry, EvalRefusal, Tail};
 use al_base::{CreatorChanges, Hash, OnlineChanges};
 use al_block::{Block, Field, Header, header_hash, payset_hashes};
 use al_deltas::RoundDelta;
-use al_moves::Work;
+use al_moves::{Stop, Work};
 use al_rewards::Totals;
 use al_rows::{Changes, RowView};
 use std::alloc::{AllocError, Global};
@@ -72,9 +77,10 @@ fn block_rows<V: RowView>(
     block: &Block,
 ) -> Result<Vec<Entry>, EvalRefusal<V::Fault>>
     requires level { work.old.level ≡ block.now.header.level }
+    requires round { work.old.round ≡ block.now.header.round }
     requires special { work.old.special ≡ before.now.chain.special }
     requires most { block.now.header.round ≤ 2 ^ 62 }
-    ensures step { Runs V.tells (block_rows before.now units past.now block.now work.old.now) work.old work.new result }
+    ensures step { RunsWhere V.tells (AskOne work.old.block block.now.items) (block_rows before.now units past.now block.now work.old.now) work.old work.new result }
     ensures round { OnOk result (block.now.header.round ≡ before.now.header.round + 1) }
     ensures entries { IfOk result (λ es. es.items ≡ map (λ i. entry_of i.txn) block.now.items) }
 {
@@ -98,10 +104,67 @@ fn block_rows<V: RowView>(
         return Err(EvalRefusal::Memory);
     };
     let counter = all_items(alloc, work, before, past, block, entries.as_slice())?;
+    expire_all(work, &header.expired)?;
     match counter_fault(header, counter) {
         Some(field) => Err(EvalRefusal::Header { field }),
         None => Ok(entries),
     }
+}
+
+// What is kept of the transactions of a block, and what it changes beside rows: creators, and what
+// consensus knows of accounts.
+#[derive(Drop)]
+struct Taken {
+    entries: Vec<Entry>,
+    creators: CreatorChanges,
+    online: OnlineChanges,
+}
+
+// The creators that differ from before the block.
+fn creators_in<V: RowView>(work: &mut Work<V>) -> Result<CreatorChanges, EvalRefusal<V::Fault>>
+    ensures sees { Sees V.tells work.old work.new result }
+    ensures changes { V.tells ≡ true → ((id : ℕ) → HasOneCreator work.old.block id) → IfOk result (λ cs. AreCreatorChanges work.old.block work.old.now (map creator_change_of cs)) }
+    ensures ordered { IfOk result (λ cs. IsStrictlySortedBy nat_cmp (map (λ c. c.id) cs)) }
+{
+    match work.creators() {
+        Ok(creators) => Ok(creators),
+        Err(Stop::View(fault)) => Err(EvalRefusal::View(fault)),
+        Err(Stop::Memory) => Err(EvalRefusal::Memory),
+        Err(Stop::Rule(_)) => unreachable!(),
+    }
+}
+
+// The whole step over a work, with what it changes beside rows.
+fn run_block<V: RowView>(
+    alloc: Global,
+    work: &mut Work<V>,
+    before: &Before,
+    units: u64,
+    past: &Tail,
+    block: &Block,
+) -> Result<Taken, EvalRefusal<V::Fault>>
+    requires level { work.old.level ≡ block.now.header.level }
+    requires round { work.old.round ≡ block.now.header.round }
+    requires special { work.old.special ≡ before.now.chain.special }
+    requires most { block.now.header.round ≤ 2 ^ 62 }
+    ensures step { RunsWhere V.tells (AskOne work.old.block block.now.items) (block_rows before.now units past.now block.now work.old.now) work.old work.new result }
+    ensures round { OnOk result (block.now.header.round ≡ before.now.header.round + 1) }
+    ensures entries { IfOk result (λ t. t.entries.items ≡ map (λ i. entry_of i.txn) block.now.items) }
+    ensures creators { V.tells ≡ true → ((id : ℕ) → HasOneCreator work.old.block id) → IfOk result (λ t. AreCreatorChanges work.old.block work.new.now (map creator_change_of t.creators)) }
+    ensures ordered { IfOk result (λ t. IsStrictlySortedBy nat_cmp (map (λ c. c.id) t.creators)) }
+    ensures online { V.tells ≡ true → IfOk result (λ t. AreOnlineChanges work.old.block work.new.now (map online_change_of t.online)) }
+    ensures rising { IfOk result (λ t. IsStrictlySortedBy address_cmp (map (λ c. c.address) t.online)) }
+{
+    let entries = block_rows(alloc, work, before, units, past, block)?;
+    let creators = creators_in(work)?;
+    let Ok(online) = work.online() else {
+        return Err(EvalRefusal::Memory);
+    };
+    Ok(Taken {
+        entries,
+        creators,
+        online,
+    })
 }
 
 // What a block changes, with its header.
@@ -109,11 +172,13 @@ fn delta_of(
     alloc: Global,
     block: &Block,
     changes: Result<Changes, AllocError>,
+    creators: CreatorChanges,
+    online: OnlineChanges,
     totals: Totals,
 ) -> Result<RoundDelta, AllocError>
     ensures changes { IfOk result (λ d. changes ≡ Ok d.changes) }
-    ensures creators { IfOk result (λ d. IsStrictlySortedBy nat_cmp (map (λ c. c.id) d.creators)) }
-    ensures online { IfOk result (λ d. IsStrictlySortedBy address_cmp (map (λ c. c.address) d.online)) }
+    ensures creators { IfOk result (λ d. d.creators ≡ creators) }
+    ensures online { IfOk result (λ d. d.online ≡ online) }
     ensures header { IfOk result (λ d. IsDeltaOf block.now.header d) }
     ensures totals { IfOk result (λ d. d.totals ≡ totals) }
 {
@@ -123,9 +188,9 @@ fn delta_of(
         hash: header_hash(alloc, &header)?,
         header,
         changes: changes?,
-        creators: CreatorChanges::new(alloc),
+        creators,
         totals,
-        online: OnlineChanges::new(alloc),
+        online,
     })
 }
 
@@ -141,8 +206,10 @@ fn eval_over<V: RowView>(
     requires { block.now.header.round ≤ 2 ^ 62 }
     ensures lender { V.lender result ≡ V.lender view }
     ensures same { V.tells ≡ true → V.rows result ≡ V.rows view }
-    ensures step { V.tells ≡ true → Evals (block_rows before.now (units_before before.now) past.now block.now (V.rows view)) (V.rows view) (delta_in answer.new) }
-    ensures totals { V.tells ≡ true → TotalsFollow (block_rows before.now (units_before before.now) past.now block.now (V.rows view)) before.now block.now.header (V.rows view) (delta_in answer.new) }
+    ensures step { V.tells ≡ true → AskOne (V.rows view) block.now.items → Evals (block_rows before.now (units_before before.now) past.now block.now (V.rows view)) (V.rows view) (delta_in answer.new) }
+    ensures created { V.tells ≡ true → ((id : ℕ) → HasOneCreator (V.rows view) id) → CreatorsFollow (block_rows before.now (units_before before.now) past.now block.now (V.rows view)) (V.rows view) (delta_in answer.new) }
+    ensures totals { V.tells ≡ true → AskOne (V.rows view) block.now.items → TotalsFollow (block_rows before.now (units_before before.now) past.now block.now (V.rows view)) before.now block.now.header (V.rows view) (delta_in answer.new) }
+    ensures stakes { V.tells ≡ true → AskOne (V.rows view) block.now.items → OnlineFollows (block_rows before.now (units_before before.now) past.now block.now (V.rows view)) (V.rows view) (delta_in answer.new) }
     ensures cause { IsCounted answer.new (V.failures view) (V.failures result) }
     ensures entries { IfOk answer.new (λ e. e.entries.items ≡ map (λ i. entry_of i.txn) block.now.items) }
     ensures ordered { IfOk answer.new (λ e. IsStrictlySortedBy key_cmp (map (λ c. c.key) e.delta.changes)) }
@@ -161,17 +228,22 @@ fn eval_over<V: RowView>(
         header.round,
     );
     let units = before.totals.units();
-    let run = block_rows(alloc, &mut work, before, units, past, block);
+    let run = run_block(alloc, &mut work, before, units, past, block);
     let mut totals = before.totals;
     totals.raise(header.level);
     let totals = work.totals(&totals);
     let (changes, view) = work.end();
     *answer = match run {
         Err(refusal) => Err(refusal),
-        Ok(entries) => match delta_of(alloc, block, changes, totals) {
-            Ok(delta) => Ok(Evaluated { delta, entries }),
-            Err(_) => Err(EvalRefusal::Memory),
-        },
+        Ok(taken) => {
+            match delta_of(alloc, block, changes, taken.creators, taken.online, totals) {
+                Ok(delta) => Ok(Evaluated {
+                    delta,
+                    entries: taken.entries,
+                }),
+                Err(_) => Err(EvalRefusal::Memory),
+            }
+        }
     };
     view
 }
@@ -186,9 +258,12 @@ pub fn eval_with_entries<V: RowView>(
     block: &Block,
 ) -> Result<Evaluated, EvalRefusal<V::Fault>>
     requires { block.now.header.round ≤ 2 ^ 62 }
-    ensures step { V.tells ≡ true → Evals (block_rows before.now (units_before before.now) tail.now block.now (V.rows view.old)) (V.rows view.old) (delta_in result) }
-    ensures totals { V.tells ≡ true → TotalsFollow (block_rows before.now (units_before before.now) tail.now block.now (V.rows view.old)) before.now block.now.header (V.rows view.old) (delta_in result) }
+    ensures step { V.tells ≡ true → AskOne (V.rows view.old) block.now.items → Evals (block_rows before.now (units_before before.now) tail.now block.now (V.rows view.old)) (V.rows view.old) (delta_in result) }
+    ensures created { V.tells ≡ true → ((id : ℕ) → HasOneCreator (V.rows view.old) id) → CreatorsFollow (block_rows before.now (units_before before.now) tail.now block.now (V.rows view.old)) (V.rows view.old) (delta_in result) }
+    ensures totals { V.tells ≡ true → AskOne (V.rows view.old) block.now.items → TotalsFollow (block_rows before.now (units_before before.now) tail.now block.now (V.rows view.old)) before.now block.now.header (V.rows view.old) (delta_in result) }
+    ensures stakes { V.tells ≡ true → AskOne (V.rows view.old) block.now.items → OnlineFollows (block_rows before.now (units_before before.now) tail.now block.now (V.rows view.old)) (V.rows view.old) (delta_in result) }
     ensures sound { V.tells ≡ true → (s : State) → before.now ≡ before_of s → live block.now.header.round tail.now ≡ live block.now.header.round (map entry_of s.past) → V.rows view.old ≡ bare s.rows → Sound s → IsStep s block.now (delta_in result) }
+    ensures numbered { AreNumbered block.now }
     ensures cause { IsCounted result (V.failures view.old) (V.failures view.new) }
     ensures same { V.tells ≡ true → V.rows view.new ≡ V.rows view.old }
     ensures entries { IfOk result (λ e. e.entries.items ≡ map (λ i. entry_of i.txn) block.now.items) }
@@ -199,6 +274,7 @@ pub fn eval_with_entries<V: RowView>(
     ensures header { IfOk result (λ e. IsDeltaOf block.now.header e.delta) }
     ensures next { IfOk result (λ e. e.delta.round ≡ before.now.header.round + 1) }
 {
+    numbers_fit(block.items.as_slice());
     let mut answer = Err(EvalRefusal::Memory);
     let _lent = eval_over(alloc, Lent { view }, before, tail, block, &mut answer);
     answer
@@ -206,12 +282,15 @@ pub fn eval_with_entries<V: RowView>(
 
 /// The step of a block over a view: what it changes, or the first refusal. It follows the Algorand
 /// ledger specification: first the header's fields, then the pool pays the rewards, then the digest
-/// of the payset, then each group in order, and last the count of transactions. A group is looked
-/// at as a whole, and then each of its members in order. Bodies other than payments do nothing, and
-/// the list of expired accounts is not looked at. `before` tells the totals at the level of the
-/// last block; those of the delta are at the new level. Over a sound state, with what is known of
-/// it, and a tail with its live entries, this is the ledger's step: the state after it is sound,
-/// all its money stays, and the block is never refused because the pool could not pay.
+/// of the payset, then each group in order, then the accounts that are listed as expired, and last
+/// the count of transactions. A group is looked at as a whole, and then each of its members in
+/// order. Calls of applications do nothing. `before` tells the totals at the level of the last
+/// block; those of the delta are at the new level. What is said of the step asks that the rows have
+/// at most one creator of each id that the block asks for. Over a sound state, with what is known
+/// of it, and a tail with its live entries, this is the ledger's step: the state after it is sound,
+/// all its money stays, the creators and what consensus knows of accounts are those of its rows,
+/// and the block is never refused because the pool could not pay. Errors: `Memory` also where a
+/// transaction creates something and no number of 64 bits is left.
 pub fn eval<V: RowView>(
     alloc: Global,
     view: &mut V,
@@ -220,9 +299,12 @@ pub fn eval<V: RowView>(
     block: &Block,
 ) -> Result<RoundDelta, EvalRefusal<V::Fault>>
     requires { block.now.header.round ≤ 2 ^ 62 }
-    ensures step { V.tells ≡ true → Evals (block_rows before.now (units_before before.now) tail.now block.now (V.rows view.old)) (V.rows view.old) result }
-    ensures totals { V.tells ≡ true → TotalsFollow (block_rows before.now (units_before before.now) tail.now block.now (V.rows view.old)) before.now block.now.header (V.rows view.old) result }
+    ensures step { V.tells ≡ true → AskOne (V.rows view.old) block.now.items → Evals (block_rows before.now (units_before before.now) tail.now block.now (V.rows view.old)) (V.rows view.old) result }
+    ensures created { V.tells ≡ true → ((id : ℕ) → HasOneCreator (V.rows view.old) id) → CreatorsFollow (block_rows before.now (units_before before.now) tail.now block.now (V.rows view.old)) (V.rows view.old) result }
+    ensures totals { V.tells ≡ true → AskOne (V.rows view.old) block.now.items → TotalsFollow (block_rows before.now (units_before before.now) tail.now block.now (V.rows view.old)) before.now block.now.header (V.rows view.old) result }
+    ensures stakes { V.tells ≡ true → AskOne (V.rows view.old) block.now.items → OnlineFollows (block_rows before.now (units_before before.now) tail.now block.now (V.rows view.old)) (V.rows view.old) result }
     ensures sound { V.tells ≡ true → (s : State) → before.now ≡ before_of s → live block.now.header.round tail.now ≡ live block.now.header.round (map entry_of s.past) → V.rows view.old ≡ bare s.rows → Sound s → IsStep s block.now result }
+    ensures numbered { AreNumbered block.now }
     ensures cause { IsCounted result (V.failures view.old) (V.failures view.new) }
     ensures same { V.tells ≡ true → V.rows view.new ≡ V.rows view.old }
     ensures ordered { IfOk result (λ d. IsStrictlySortedBy key_cmp (map (λ c. c.key) d.changes)) }

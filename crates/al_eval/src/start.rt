@@ -4,19 +4,20 @@ ghost use Rattle.std.specs.FinMap.{from_entries};
 ghost use Rattle.std.specs.BTreeMap.{is_at};
 ghost use Rattle.al_base.specs.Keys.{key_cmp};
 ghost use Rattle.al_base.specs.declared.key.Key.TheVariants.{Account};
-ghost use Rattle.al_moves.specs.Held.{at};
+ghost use Rattle.al_overlay.specs.Held.{at};
 ghost use Rattle.al_rows.specs.Rows.{AccountInRange, IsKept, unless_zero};
 ghost use Rattle.al_rows.specs.declared.row.Row.TheVariants as row;
 ghost use Rattle.al_deltas.specs.Queue.{stored_at};
 ghost use Rattle.al_rewards.specs.Totals.{AreTotals};
-ghost use Rattle.al_eval.specs.Start.{start_rows, start_totals};
+ghost use Rattle.al_moves.specs.Online.{online_of};
+ghost use Rattle.al_eval.specs.Start.{start_online, start_rows, start_totals};
 
-use al_base::Key;
+use al_base::{Key, OnlineChange, OnlineChanges, OnlineData, Status};
 use al_deltas::{put_row, take_row};
 use al_genesis::GenesisRow;
 use al_moves::share_of;
 use al_rewards::Totals;
-use al_rows::{Row, Stored};
+use al_rows::{AccountRow, Row, Stored};
 use std::alloc::{AllocError, Global};
 use std::collections::BTreeMap;
 
@@ -61,4 +62,36 @@ pub fn start_totals(accounts: &[GenesisRow]) -> Totals
         totals.change(None, Some(&share_of(&account.row)));
     }
     totals
+}
+
+// What consensus knows of an account, none where it is not online.
+fn online_of(r: &AccountRow) -> Option<OnlineData>
+    ensures { result ≡ online_of r.now }
+{
+    match r.status {
+        Status::Online => Some(OnlineData {
+            balance: r.balance,
+            base: r.base,
+            first: r.first,
+            last: r.last,
+            dilution: r.dilution,
+            vote: r.vote,
+            selection: r.selection,
+        }),
+        Status::Offline | Status::NotParticipating => None,
+    }
+}
+
+/// What consensus knows of each account in round 0.
+pub fn start_online(alloc: Global, accounts: &[GenesisRow]) -> Result<OnlineChanges, AllocError>
+    ensures { IfOk result (λ cs. cs ≡ start_online accounts.now) }
+{
+    let mut changes = OnlineChanges::new(alloc);
+    for account in accounts {
+        changes.push(OnlineChange {
+            address: account.address,
+            now: online_of(&account.row),
+        })?;
+    }
+    Ok(changes)
 }

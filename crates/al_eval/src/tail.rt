@@ -3,7 +3,7 @@ ghost use Rattle.std.specs.Prelude.{◌≡◌, ◌++◌, ◌∷◌, ◌-◌, Lis
 ghost use Rattle.al_txn.specs.Ids.{txid_of};
 ghost use Rattle.al_eval.specs.declared.tail.Entry.{Entry};
 ghost use Rattle.al_eval.specs.Past.{entry_of, has_id, is_no_lease, lease_until};
-ghost use Rattle.al_eval.specs.Latest.{Knows, at, id_mark, lease_mark};
+ghost use Rattle.al_eval.specs.Latest.{id_mark, lease_mark};
 
 use crate::latest::{Latest, Mark};
 use al_base::{Address, Hash};
@@ -70,12 +70,12 @@ impl Entry {
     }
 }
 
-// An entry, and what stood under its marks before it.
+/// An entry, and what stood under its marks before it.
 #[derive(Clone, Copy)]
-struct Kept {
-    entry: Entry,
-    id_before: Option<u64>,
-    lease_before: Option<u64>,
+pub struct Kept {
+    pub entry: Entry,
+    pub id_before: Option<u64>,
+    pub lease_before: Option<u64>,
 }
 
 /// The transactions of a chain, as a list of what is kept of each. A look-up takes the logarithm of
@@ -114,14 +114,11 @@ impl Tail {
         ensures ok { OnOk result (self.new ≡ self.old ++ entry ∷ []) }
         ensures err { OnErr result (self.new ≡ self.old) }
     {
-        let kept = with_before(&self.latest, entry);
-        self.kept.push(kept)?;
-        match self.latest.raise(&entry, kept.id_before, kept.lease_before) {
+        self.kept.reserve(1)?;
+        let kept = self.latest.raise(entry)?;
+        match self.kept.push(kept) {
             Ok(()) => Ok(()),
-            Err(refused) => {
-                self.kept.pop();
-                Err(refused)
-            }
+            Err(_) => unreachable!(),
         }
     }
 
@@ -199,29 +196,12 @@ impl Tail {
     }
 }
 
-// An entry, and what stands under its marks.
-fn with_before(latest: &Latest, entry: Entry) -> Kept
-    ensures entry { result.entry ≡ entry }
-    ensures knows { Knows (at latest.now.rounds.entries) result }
-{
-    let lease_before = if entry.has_no_lease() {
-        None
-    } else {
-        latest.last(&entry.lease_mark())
-    };
-    Kept {
-        entry,
-        id_before: latest.last(&entry.id_mark()),
-        lease_before,
-    }
-}
-
 /// What is kept of each transaction of a block, whose ids are known.
 pub fn entries_with(alloc: Global, items: &[Item], ids: &[Hash]) -> Result<Vec<Entry>, AllocError>
     requires { ids.now ≡ map (λ i. txid_of i.txn) items.now }
     ensures { IfOk result (λ es. es.items ≡ map (λ i. entry_of i.txn) items.now) }
 {
-    let mut entries = Vec::new(alloc);
+    let mut entries = Vec::with_capacity(alloc, items.len())?;
     for (place, item) in items.iter().enumerate() {
         entries.push(Entry::with(ids[place], &item.txn))?;
     }

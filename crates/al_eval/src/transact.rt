@@ -1,18 +1,21 @@
 //! A transaction over the rows changed so far.
-ghost use Rattle.std.specs.Prelude.{◌≡◌, ◌++◌, [], map, true};
-ghost use Rattle.al_moves.specs.Work.{Does, IsDone};
+ghost use Rattle.std.specs.Prelude.{◌≡◌, ◌++◌, ◌∷◌, [], OnOk, map, true};
+ghost use Rattle.al_overlay.specs.Work.{DoesWhere, HasOneCreator, IsDone};
+ghost use Rattle.al_resources.specs.Assets.{configured};
 ghost use Rattle.al_eval.specs.Past.{entry_of, later_of};
 ghost use Rattle.al_eval.specs.Items.{all_items, applied, at_place, held_until, id_fault, item_fault, lease_fault, transacted, window_fault};
-ghost use Rattle.al_eval.specs.Body.{done_by};
+ghost use Rattle.al_eval.specs.Body.{AsksOne, done_by};
 ghost use Rattle.al_eval.specs.Turns.{context};
-ghost use Rattle.al_eval.specs.Answers.{Runs, RunsAll};
+ghost use Rattle.al_eval.specs.Answers.{AskOne, RunsAll, RunsWhere};
 
 use crate::group::{open, size_of};
 use crate::{Before, Entry, EvalRefusal, Tail};
+use al_base::Address;
 use al_block::Block;
 use al_moves::{Rule, Stop, Work};
+use al_resources::{configure, freeze, transfer};
 use al_rows::RowView;
-use al_txn::{Body, Chain, Item, Txn};
+use al_txn::{Body, Chain, Config, Item, Txn};
 use std::alloc::Global;
 
 /// Where a transaction stands.
@@ -103,40 +106,67 @@ fn item_fault(past: &Tail, seen: &Tail, turn: &Turn<'_>) -> Option<Rule>
     lease_fault(turn.round, past, seen, turn.entry)
 }
 
+// Configures an asset. What it creates has a number of 64 bits: a count of transactions that
+// passes them leaves no room for another number.
+fn configure_next<V: RowView>(
+    alloc: Global,
+    work: &mut Work<V>,
+    who: &Address,
+    config: &Config,
+    next: u128,
+) -> Result<(), Stop<V::Fault>>
+    ensures { DoesWhere V.tells (HasOneCreator work.old.block config.now.asset) (configured who.now config.now next work.old.now) work.old work.new result }
+{
+    match u64::try_from(next) {
+        Ok(next) => configure(alloc, work, who, config, next),
+        Err(_) => Err(Stop::Memory),
+    }
+}
+
 // The body of a transaction.
-fn do_body<V: RowView>(work: &mut Work<V>, turn: &Turn<'_>) -> Result<(), Stop<V::Fault>>
-    ensures { Does V.tells (done_by turn.now.item.now.txn.body (context work.old.level turn.now) work.old.now) work.old work.new result }
+fn do_body<V: RowView>(
+    alloc: Global,
+    work: &mut Work<V>,
+    turn: &Turn<'_>,
+) -> Result<(), Stop<V::Fault>>
+    requires { work.old.round ≡ turn.now.round }
+    ensures { DoesWhere V.tells (AsksOne work.old.block turn.now.item.now.txn.body) (done_by turn.now.item.now.txn.body (context work.old.level turn.now) work.old.now) work.old work.new result }
 {
     let txn = &turn.item.txn;
     match &txn.body {
         Body::Pay(p) => work.pay(&txn.sender, p),
-        Body::KeyReg(_) | Body::Config(_) | Body::Move(_) | Body::Freeze(_) | Body::App(_) => Ok(
-            (),
-        ),
+        Body::Config(c) => configure_next(alloc, work, &txn.sender, c, turn.next),
+        Body::Move(m) => transfer(work, &txn.sender, m),
+        Body::Freeze(f) => freeze(work, &txn.sender, f),
+        Body::KeyReg(k) => work.keyreg(&txn.sender, k),
+        Body::App(_) => Ok(()),
     }
 }
 
 // What a transaction does: its fee, its rekey, its body, and then the minimum balances.
 #[tactic(auto, unfolding(crate::specs::Items::applied))]
 fn apply<V: RowView>(
+    alloc: Global,
     work: &mut Work<V>,
     chain: &Chain,
     turn: &Turn<'_>,
 ) -> Result<(), Stop<V::Fault>>
-    requires { work.old.special ≡ chain.now.special }
-    ensures { IsDone V.tells (applied chain.now (context work.old.level turn.now) work.old.now) work.old work.new result }
+    requires special { work.old.special ≡ chain.now.special }
+    requires round { work.old.round ≡ turn.now.round }
+    ensures { IsDone V.tells (AsksOne work.old.block turn.now.item.now.txn.body) (applied chain.now (context work.old.level turn.now) work.old.now) work.old work.new result }
 {
     let txn = &turn.item.txn;
     work.begin();
     work.move_algos(&txn.sender, &chain.special.sink, txn.fee)?;
     work.rekey(&txn.sender, &txn.rekey)?;
-    do_body(work, turn)?;
+    do_body(alloc, work, turn)?;
     work.check_minimum()
 }
 
 // A whole transaction.
 #[tactic(auto, unfolding(crate::specs::Items::transacted))]
 fn transact<V: RowView>(
+    alloc: Global,
     work: &mut Work<V>,
     chain: &Chain,
     past: &Tail,
@@ -144,17 +174,19 @@ fn transact<V: RowView>(
     turn: &Turn<'_>,
 ) -> Result<(), Stop<V::Fault>>
     requires special { work.old.special ≡ chain.now.special }
+    requires round { work.old.round ≡ turn.now.round }
     requires entry { turn.now.entry.now ≡ entry_of turn.now.item.now.txn }
-    ensures { IsDone V.tells (transacted chain.now (past.now ++ seen.now) (context work.old.level turn.now) work.old.now) work.old work.new result }
+    ensures { IsDone V.tells (AsksOne work.old.block turn.now.item.now.txn.body) (transacted chain.now (past.now ++ seen.now) (context work.old.level turn.now) work.old.now) work.old work.new result }
 {
     if let Some(rule) = item_fault(past, seen, turn) {
         return Err(Stop::Rule(rule));
     }
-    apply(work, chain, turn)
+    apply(alloc, work, chain, turn)
 }
 
 // A transaction at its place.
 fn transact_at<V: RowView>(
+    alloc: Global,
     work: &mut Work<V>,
     chain: &Chain,
     past: &Tail,
@@ -163,14 +195,38 @@ fn transact_at<V: RowView>(
     turn: &Turn<'_>,
 ) -> Result<(), EvalRefusal<V::Fault>>
     requires special { work.old.special ≡ chain.now.special }
+    requires round { work.old.round ≡ turn.now.round }
     requires entry { turn.now.entry.now ≡ entry_of turn.now.item.now.txn }
-    ensures { Runs V.tells (at_place place (transacted chain.now (past.now ++ seen.now) (context work.old.level turn.now) work.old.now)) work.old work.new result }
+    ensures { RunsWhere V.tells (AsksOne work.old.block turn.now.item.now.txn.body) (at_place place (transacted chain.now (past.now ++ seen.now) (context work.old.level turn.now) work.old.now)) work.old work.new result }
 {
-    match transact(work, chain, past, seen, turn) {
+    match transact(alloc, work, chain, past, seen, turn) {
         Ok(()) => Ok(()),
         Err(Stop::Rule(rule)) => Err(EvalRefusal::Broken { place, rule }),
         Err(Stop::View(fault)) => Err(EvalRefusal::View(fault)),
         Err(Stop::Memory) => Err(EvalRefusal::Memory),
+    }
+}
+
+// The same, and what is kept of it is seen from then on.
+fn take_turn<V: RowView>(
+    alloc: Global,
+    work: &mut Work<V>,
+    chain: &Chain,
+    past: &Tail,
+    seen: &mut Tail,
+    place: usize,
+    turn: &Turn<'_>,
+) -> Result<(), EvalRefusal<V::Fault>>
+    requires special { work.old.special ≡ chain.now.special }
+    requires round { work.old.round ≡ turn.now.round }
+    requires entry { turn.now.entry.now ≡ entry_of turn.now.item.now.txn }
+    ensures runs { RunsWhere V.tells (AsksOne work.old.block turn.now.item.now.txn.body) (at_place place (transacted chain.now (past.now ++ seen.old) (context work.old.level turn.now) work.old.now)) work.old work.new result }
+    ensures seen { OnOk result (seen.new ≡ seen.old ++ entry_of turn.now.item.now.txn ∷ []) }
+{
+    transact_at(alloc, work, chain, past, seen, place, turn)?;
+    match seen.push(*turn.entry) {
+        Ok(()) => Ok(()),
+        Err(_) => Err(EvalRefusal::Memory),
     }
 }
 
@@ -185,8 +241,9 @@ pub fn all_items<V: RowView>(
     entries: &[Entry],
 ) -> Result<u128, EvalRefusal<V::Fault>>
     requires special { work.old.special ≡ before.now.chain.special }
+    requires round { work.old.round ≡ block.now.header.round }
     requires entries { entries.now ≡ map (λ i. entry_of i.txn) block.now.items }
-    ensures { RunsAll V.tells (all_items before.now.chain work.old.level block.now.header.round 0 past.now before.now.header.counter 0 block.now.items work.old.now) work.old work.new result }
+    ensures { RunsAll V.tells (AskOne work.old.block block.now.items) (all_items before.now.chain work.old.level block.now.header.round 0 past.now before.now.header.counter 0 block.now.items work.old.now) work.old work.new result }
 {
     let chain = &before.chain;
     let round = block.header.round;
@@ -203,10 +260,7 @@ pub fn all_items<V: RowView>(
             item,
             entry,
         };
-        transact_at(work, chain, past, &seen, place, &turn)?;
-        if seen.push(*entry).is_err() {
-            return Err(EvalRefusal::Memory);
-        }
+        take_turn(alloc, work, chain, past, &mut seen, place, &turn)?;
         counter += u128::from(size_of(item));
     }
     Ok(counter)

@@ -1,7 +1,7 @@
 use Rattle.std.proofs.Common.{◌≡◌, drop, IfSome}
 use Rattle.std.specs.FinMap.{from_entries}
 use Rattle.al_base.specs.declared.key.Key.{Key}
-use Rattle.al_moves.specs.Held.{at}
+use Rattle.al_overlay.specs.Held.{at}
 use Rattle.al_rows.specs.declared.stored.Stored.{Stored}
 use Rattle.al_rows.specs.Rows.{IsKept}
 use Rattle.al_eval.specs.Start.{with_accounts, start_rows}

@@ -1,5 +1,6 @@
 use Rattle.std.proofs.Common.{◌≡◌, ◌≤◌, ◌+◌, ◌*◌, ◌^◌, ◌++◌, true, drop}
-use Rattle.al_moves.specs.Work.{IsFixed}
+use Rattle.al_overlay.specs.Work.{IsFixed}
+use Rattle.al_eval.specs.Answers.{AskOne}
 use Rattle.al_eval.specs.Items.{all_items}
 use Rattle.al_eval.proofs.transact.all_items.Given as goal
 
@@ -7,5 +8,5 @@ abbrev pub invariant-loop-place : goal.invariant-loop-place
 invariant-loop-place g l = record {
   fixed : IsFixed g.V.RowView.tells l.fn.work l.work;
   most : l.counter ≤ 2 ^ 64 + l.place * 2 ^ 63;
-  rest : g.V.RowView.tells ≡ true → all_items l.chain l.fn.work.level l.round l.place (l.past ++ l.seen) l.counter l.left (drop l.place l.block.items) l.work.now ≡ all_items l.chain l.fn.work.level l.round 0 l.past l.before.header.counter 0 l.block.items l.fn.work.now;
+  rest : g.V.RowView.tells ≡ true → AskOne l.fn.work.block l.block.items → all_items l.chain l.fn.work.level l.round l.place (l.past ++ l.seen) l.counter l.left (drop l.place l.block.items) l.work.now ≡ all_items l.chain l.fn.work.level l.round 0 l.past l.before.header.counter 0 l.block.items l.fn.work.now;
 }

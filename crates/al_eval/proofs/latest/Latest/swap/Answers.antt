@@ -2,7 +2,7 @@ use Rattle.std.proofs.Common.{◌≡◌, subst, cond, Some, Ordering}
 use Rattle.std.specs.BTreeMap.{get, is_at}
 use Rattle.al_eval.specs.declared.latest.Mark.{Mark}
 use Rattle.al_eval.proofs.Marks.{derived_order}
-use Rattle.al_eval.proofs.latest.Latest.put.Goals as goal
+use Rattle.al_eval.proofs.latest.Latest.swap.Goals as goal
 
 pub returns-in-Ok-clause-ok : goal.returns-in-Ok-clause-ok
 returns-in-Ok-clause-ok c =
