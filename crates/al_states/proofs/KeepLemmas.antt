@@ -1,12 +1,12 @@
 -- The kept states are those of the chain.
-use Rattle.std.proofs.Common.{◌≡◌, ◌≤◌, ◌<◌, ◌-◌, ℕ, zero, suc, List, [], ◌∷◌, ◌++◌, length, take, map, All, get_or, refl, sym, ap, ap₂, ◌∙◌, arith, subst, true, false, Result, Ok, Err, Option, Some, None, IfOk, IfSome, option_map}
+use Rattle.std.proofs.Common.{length-append, ◌≡◌, ◌≤◌, ◌<◌, ◌-◌, ℕ, zero, suc, List, [], ◌∷◌, ◌++◌, length, take, map, All, get_or, refl, sym, ap, ap₂, ◌∙◌, arith, subst, true, false, Result, Ok, Err, Option, Some, None, IfOk, IfSome, option_map}
 use Rattle.std.proofs.lemmas.List.{map-append, length-map}
 use Rattle.std.proofs.lemmas.List.Elements.{All-push, recursion_from_All}
 use Rattle.std.specs.List.{AllByRecursion}
-use Rattle.std.specs.FinMap.{get}
+use Rattle.std.specs.FinMap.{get, insert}
 use Rattle.std.specs.List.Sorted.{IsStrictlySortedBy}
 use Rattle.al_base.specs.declared.key.Key.{Key}
-use Rattle.al_base.specs.Keys.{key_cmp}
+use Rattle.al_base.specs.Keys.{address_cmp, key_cmp}
 use Rattle.al_msgpack.proofs.Canonical.{spells_only}
 use Rattle.al_msgpack.specs.declared.val.Val.TheVariants as values
 use Rattle.al_block.specs.Block.{block, IsBlock}
@@ -25,24 +25,31 @@ use Rattle.std.proofs.lemmas.Slice.Eq.{bytes_eq-Decides}
 use Rattle.al_txn.specs.declared.chain.Chain.{Chain}
 use Rattle.al_txn.specs.declared.txn.Item.{Item}
 use Rattle.al_txn.specs.declared.txn.Txn.{Txn}
-use Rattle.al_moves.specs.Rules.{then_do}
+use Rattle.al_overlay.specs.Rules.{then_do}
 use Rattle.al_moves.specs.Totals.{counts}
 use Rattle.al_eval.specs.Answers.{IsDeltaOf}
 use Rattle.al_eval.specs.Evaluated.{delta_in}
 use Rattle.al_eval.specs.Past.{entry_of}
-use Rattle.al_eval.specs.Sound.{IsStep}
+use Rattle.al_eval.specs.Sound.{AreNumbered, IsStep}
 use Rattle.al_eval.specs.declared.before.Before.{Before}
 use Rattle.al_eval.specs.declared.before.EvalRefusal.{EvalRefusal}
 use Rattle.al_eval.specs.declared.run.Evaluated.{Evaluated}
 use Rattle.al_eval.specs.declared.tail.Entry.{Entry}
 use Rattle.al_eval.specs.Steps.{Refusal}
-use Rattle.al_eval.specs.State.{State, before_of, step, replay, row_at, row_in, level_at, level_in}
+use Rattle.al_eval.specs.Snaps.{snap_of}
+use Rattle.al_eval.specs.State.{State, before_of, last_snap, step, replay, row_at, row_in, level_at, level_in}
 use Rattle.al_eval.proofs.Chains.{after_step}
 use Rattle.al_eval.proofs.Nexts.{rows_follow}
+use Rattle.al_eval.proofs.Onlines.{snaps_after}
+use Rattle.al_online.specs.Laws.{Snaps}
+use Rattle.al_online.specs.Memory.{Memory, and_round, top as last_round}
+use Rattle.al_online.specs.Stakes.{Snap, next_snap}
+use Rattle.al_online.proofs.Once.{once_where_rising}
+use Rattle.al_states.proofs.MemoryLemmas.{remembers_more}
 use Rattle.al_states.specs.declared.keeping.KeptBlock.{KeptBlock}
 use Rattle.al_states.specs.declared.states.States.{States}
 use Rattle.al_states.specs.Held.{IsValid}
-use Rattle.al_states.specs.Keeping.{EvaluatesTo, Follows, IsEvaluated, IsKeeping, IsStates, Leads, blocks_of, caught_up, held, origin_of}
+use Rattle.al_states.specs.Keeping.{EvaluatesTo, Follows, IsEvaluated, IsKeeping, IsStates, Leads, Remembers, blocks_of, caught_up, held, origin_of}
 use Rattle.al_states.specs.Replies.{IsBlockOf}
 
 -- replay goes on from where it came
@@ -93,7 +100,7 @@ follows_at o last (b ∷ bs) (d ∷ ds) (suc k) (n, stepped, rows, header, rest)
 
 -- the state after the blocks that are held
 abbrev pub last_state : (s : States) → IsStates s → State
-last_state s k = record { chain = s.before.chain; header = s.before.header; rows = rows_after s.deltas.deltas s.base; past = k.past }
+last_state s k = record { chain = s.before.chain; header = s.before.header; rows = rows_after s.deltas.deltas s.base; past = k.past; snaps = k.snaps }
 
 pub led_to_last : (s : States) (k : IsStates s) → replay (held s).origin (held s).blocks ≡ Ok (last_state s k)
 led_to_last s k = follows_replay (held s).origin (last_state s k) (held s).blocks s.deltas.deltas k.follows
@@ -191,17 +198,21 @@ before_is s k = ap₂ (known s.before) k.hash_is k.totals_are
 
 -- what a step gives over the stored rows
 pub evaluates : {F : Type 0} (s : State) (b : Block) (r : Result Evaluated (EvalRefusal F)) → IsStep s b (delta_in r) → IfOk r (λ e. e.entries.items ≡ map (λ i. entry_of i.txn) b.items) → IfOk r (λ e. IsDeltaOf b.header e.delta)
-    → IfOk r (λ e. IsStrictlySortedBy key_cmp (map (λ c. c.key) e.delta.changes)) → IfOk r (λ e. All (λ c. IfSome c.row (IsKept c.key)) e.delta.changes) → EvaluatesTo s b r
-evaluates s b (Ok e) h entries is_of ordered kept = record {
+    → IfOk r (λ e. IsStrictlySortedBy key_cmp (map (λ c. c.key) e.delta.changes)) → IfOk r (λ e. All (λ c. IfSome c.row (IsKept c.key)) e.delta.changes)
+    → IfOk r (λ e. IsStrictlySortedBy address_cmp (map (λ c. c.address) e.delta.online)) → AreNumbered b → EvaluatesTo s b r
+evaluates s b (Ok e) h entries is_of ordered kept rising numbered = record {
   next = h.0;
   stepped = h.1.stepped;
   rows = rows_follow s h.0 b e.delta is_of h.1;
   totals = h.1.totals;
+  online = h.1.online;
+  once = once_where_rising e.delta.online rising;
   is_of = is_of;
   kept = record { ordered = ordered; kept = kept };
   entries = entries;
+  numbered = numbered;
 }
-evaluates s b (Err e) h entries is_of ordered kept = h
+evaluates s b (Err e) h entries is_of ordered kept rising numbered = h
 
 -- ---- the newest rows
 
@@ -214,12 +225,32 @@ last_in (x ∷ y ∷ ds) d e h = last_in (y ∷ ds) d e h.1
 pub last_kept : (ds : List RoundDelta) (d : RoundDelta) → Some d ≡ last_of ds → All IsKeptDelta ds → IsKeptDelta d
 last_kept ds d e h = last_in ds d e (recursion_from_All IsKeptDelta ds h)
 
+-- other newest rows, which lack no more
+pub kept_newest : (chain : Chain) (first : Header) (base newest newest2 : StoredMap) (deltas : Queue) (kept : List KeptBlock) (header : Header) (hash : List ℕ) (totals : Totals) (tail : List Entry) (memory : Memory) → IsKeeping chain first base newest deltas kept header hash totals tail memory
+    → caught_up (last_of deltas.deltas) newest2 ≡ caught_up (last_of deltas.deltas) newest → IsKeeping chain first base newest2 deltas kept header hash totals tail memory
+kept_newest chain first base newest newest2 deltas kept header hash totals tail memory k same = record {
+  past = k.past;
+  snaps = k.snaps;
+  follows = k.follows;
+  begins = k.begins;
+  level = k.level;
+  changes = k.changes;
+  newest_is = same ∙ k.newest_is;
+  hash_is = k.hash_is;
+  tail_is = k.tail_is;
+  sound = k.sound;
+  totals_are = k.totals_are;
+  online = k.online;
+  spelled = k.spelled;
+  numbered = k.numbered;
+}
+
 -- ---- one block more
 
-whole : (s : State) (chain : Chain) (header : Header) (rows : StoredMap) (past : List Txn) → s.chain ≡ chain → s.header ≡ header → s.rows ≡ rows → s.past ≡ past → s ≡ record { chain = chain; header = header; rows = rows; past = past }
-whole s chain header rows past a b c d =
-    let e : record { chain = s.chain; header = s.header; rows = s.rows; past = s.past } ≡ record { chain = chain; header = header; rows = rows; past = past } = cc in
-    e
+whole : (s : State) (chain : Chain) (header : Header) (rows : StoredMap) (past : List Txn) (snaps : Snaps) → s.chain ≡ chain → s.header ≡ header → s.rows ≡ rows → s.past ≡ past → s.snaps ≡ snaps → s ≡ record { chain = chain; header = header; rows = rows; past = past; snaps = snaps }
+whole s chain header rows past snaps a b c d e =
+    let is : record { chain = s.chain; header = s.header; rows = s.rows; past = s.past; snaps = s.snaps } ≡ record { chain = chain; header = header; rows = rows; past = past; snaps = snaps } = cc in
+    is
 
 mapped : (items : List Item) → map (λ i. entry_of i.txn) items ≡ map entry_of (map (λ (i : Item). i.txn) items)
 mapped [] = refl
@@ -229,15 +260,16 @@ ok_is : (s t : State) → ◌≡◌ {A = Result State Refusal} (Ok s) (Ok t) →
 ok_is s t e = cc
 
 -- with what a step from the last state gives
-more : (chain : Chain) (first : Header) (base newest : StoredMap) (deltas : Queue) (kept : List KeptBlock) (header : Header) (hash : List ℕ) (totals : Totals) (tail : List Entry) (next : KeptBlock) (e : Evaluated)
-    → IsKeeping chain first base newest deltas kept header hash totals tail → newest ≡ rows_after deltas.deltas base → Leads (record { origin = origin_of chain first base; blocks = blocks_of kept }) next.block e → IsBlock next.bytes.items next.block
-    → IsKeeping chain first base newest (record deltas { deltas = deltas.deltas ++ e.delta ∷ [] }) (kept ++ next ∷ []) e.delta.header e.delta.hash e.delta.totals (tail ++ map (λ i. entry_of i.txn) next.block.items)
-more chain first base newest deltas kept header hash totals tail next e k newest_is l spells =
+more : (chain : Chain) (first : Header) (base newest : StoredMap) (deltas : Queue) (kept : List KeptBlock) (header : Header) (hash : List ℕ) (totals : Totals) (tail : List Entry) (memory memory2 : Memory) (next : KeptBlock) (e : Evaluated)
+    → IsKeeping chain first base newest deltas kept header hash totals tail memory → newest ≡ rows_after deltas.deltas base → Leads (record { origin = origin_of chain first base; blocks = blocks_of kept }) next.block e → IsBlock next.bytes.items next.block
+    → next.block.header.round ≡ suc (length (blocks_of kept)) → memory2 ≡ and_round e.delta.header.level e.delta.online memory → last_round memory2 ≡ e.delta.round
+    → IsKeeping chain first base newest (record deltas { deltas = deltas.deltas ++ e.delta ∷ [] }) (kept ++ next ∷ []) e.delta.header e.delta.hash e.delta.totals (tail ++ map (λ i. entry_of i.txn) next.block.items) memory2
+more chain first base newest deltas kept header hash totals tail memory memory2 next e k newest_is l spells round grown at =
     let b = next.block in
     let d = e.delta in
     let x : IsEvaluated l.last b e = l.evaluated in
     let o = origin_of chain first base in
-    let last : State = record { chain = chain; header = header; rows = rows_after deltas.deltas base; past = k.past } in
+    let last : State = record { chain = chain; header = header; rows = rows_after deltas.deltas base; past = k.past; snaps = k.snaps } in
     let same : l.last ≡ last = ok_is l.last last (sym l.replayed ∙ follows_replay o last (blocks_of kept) deltas.deltas k.follows) in
     let stepped : step last b ≡ Ok x.next = subst (λ s. step s b ≡ Ok x.next) same x.stepped in
     let put : x.next.rows ≡ after_delta d (rows_after deltas.deltas base) = x.rows ∙ ap (λ (s : State). after_delta d s.rows) same in
@@ -246,12 +278,21 @@ more chain first base newest deltas kept header hash totals tail next e k newest
     let after = after_step last x.next b stepped in
     let head : x.next.header ≡ d.header = after.0 ∙ sym x.is_of.header in
     let past = k.past ++ map (λ i. i.txn) b.items in
-    let now = whole x.next chain d.header (rows_after (deltas.deltas ++ d ∷ []) base) past after.1 head rows after.2 in
+    let snap : Snap = snap_of d.header.level (bare (rows_after (deltas.deltas ++ d ∷ []) base)) in
+    let snap_is : last_snap x.next ≡ snap = ap₂ (λ (h : Header) (m : StoredMap). snap_of h.level (bare m)) head rows in
+    let snaps : Snaps = insert k.snaps (suc (length (blocks_of kept))) snap in
+    let kept_snaps : x.next.snaps ≡ snaps = snaps_after last x.next b stepped ∙ ap₂ (insert k.snaps) round snap_is in
+    let goes_on : snap ≡ next_snap d.header.level d.online (last_snap last) =
+    sym snap_is ∙ x.online ∙ ap (λ (h : Header). next_snap h.level d.online (last_snap l.last)) head ∙ ap (λ (s : State). next_snap d.header.level d.online (last_snap s)) same in
+    let remembered = remembers_more memory memory2 k.snaps (length (blocks_of kept)) (last_snap last) snap d.header.level d.online k.online grown (at ∙ x.is_of.round ∙ round) goes_on in
+    let now = whole x.next chain d.header (rows_after (deltas.deltas ++ d ∷ []) base) past snaps after.1 head rows after.2 kept_snaps in
     let blocks : blocks_of (kept ++ next ∷ []) ≡ blocks_of kept ++ b ∷ [] = map-append (λ (y : KeptBlock). y.block) kept (next ∷ []) in
+    let long : length (blocks_of (kept ++ next ∷ [])) ≡ suc (length (blocks_of kept)) = ap length blocks ∙ (let one = length-append (blocks_of kept) (b ∷ []) in omega (arith, one)) in
     let led : Follows o (blocks_of kept ++ b ∷ []) (deltas.deltas ++ d ∷ []) x.next = follows_push o last x.next (blocks_of kept) deltas.deltas b d k.follows stepped put x.is_of.header in
     record {
       past = past;
-      follows = subst (λ (bs : List Block). Follows o bs (deltas.deltas ++ d ∷ []) (record { chain = chain; header = d.header; rows = rows_after (deltas.deltas ++ d ∷ []) base; past = past })) (sym blocks) (subst (Follows o (blocks_of kept ++ b ∷ []) (deltas.deltas ++ d ∷ [])) now led);
+      snaps = snaps;
+      follows = subst (λ (bs : List Block). Follows o bs (deltas.deltas ++ d ∷ []) (record { chain = chain; header = d.header; rows = rows_after (deltas.deltas ++ d ∷ []) base; past = past; snaps = snaps })) (sym blocks) (subst (Follows o (blocks_of kept ++ b ∷ []) (deltas.deltas ++ d ∷ [])) now led);
       begins = k.begins;
       level = k.level;
       changes = All-push IsKeptDelta deltas.deltas d k.changes x.kept;
@@ -260,16 +301,19 @@ more chain first base newest deltas kept header hash totals tail next e k newest
       tail_is = ap (λ es. es ++ map (λ i. entry_of i.txn) b.items) k.tail_is ∙ ap (λ es. map entry_of k.past ++ es) (mapped b.items) ∙ sym (map-append entry_of k.past (map (λ i. i.txn) b.items));
       sound = k.sound;
       totals_are = x.totals ∙ ap₂ (λ (h : Header) (m : StoredMap). counts h.level (bare m)) head rows;
+      online = subst (λ n. Remembers memory2 snaps n snap) (sym long) remembered;
       spelled = All-push (λ (y : KeptBlock). IsBlock y.bytes.items y.block) kept next k.spelled spells;
+      numbered = All-push (λ (y : KeptBlock). AreNumbered y.block) kept next k.numbered x.numbered;
     }
 
-pub kept_more : (chain : Chain) (first : Header) (base newest : StoredMap) (deltas deltas2 : Queue) (kept kept2 : List KeptBlock) (header header2 : Header) (hash : List ℕ) (totals : Totals) (tail tail2 : List Entry) (next : KeptBlock) (e : Evaluated)
-    → IsKeeping chain first base newest deltas kept header hash totals tail → newest ≡ rows_after deltas.deltas base → Leads (record { origin = origin_of chain first base; blocks = blocks_of kept }) next.block e → IsBlock next.bytes.items next.block
+pub kept_more : (chain : Chain) (first : Header) (base newest : StoredMap) (deltas deltas2 : Queue) (kept kept2 : List KeptBlock) (header header2 : Header) (hash : List ℕ) (totals : Totals) (tail tail2 : List Entry) (memory memory2 : Memory) (next : KeptBlock) (e : Evaluated)
+    → IsKeeping chain first base newest deltas kept header hash totals tail memory → newest ≡ rows_after deltas.deltas base → Leads (record { origin = origin_of chain first base; blocks = blocks_of kept }) next.block e → IsBlock next.bytes.items next.block
     → deltas2 ≡ record deltas { deltas = deltas.deltas ++ e.delta ∷ [] } → kept2 ≡ kept ++ next ∷ [] → header2 ≡ e.delta.header → tail2 ≡ tail ++ map (λ i. entry_of i.txn) next.block.items
-    → IsKeeping chain first base newest deltas2 kept2 header2 e.delta.hash e.delta.totals tail2
-kept_more chain first base newest deltas deltas2 kept kept2 header header2 hash totals tail tail2 next e k newest_is l spells d_is kept_is header_is tail_is =
-    let x = more chain first base newest deltas kept header hash totals tail next e k newest_is l spells in
-    let x1 = subst (λ (q : Queue). IsKeeping chain first base newest q (kept ++ next ∷ []) e.delta.header e.delta.hash e.delta.totals (tail ++ map (λ i. entry_of i.txn) next.block.items)) (sym d_is) x in
-    let x2 = subst (λ (ks : List KeptBlock). IsKeeping chain first base newest deltas2 ks e.delta.header e.delta.hash e.delta.totals (tail ++ map (λ i. entry_of i.txn) next.block.items)) (sym kept_is) x1 in
-    let x3 = subst (λ (h : Header). IsKeeping chain first base newest deltas2 kept2 h e.delta.hash e.delta.totals (tail ++ map (λ i. entry_of i.txn) next.block.items)) (sym header_is) x2 in
-    subst (λ (es : List Entry). IsKeeping chain first base newest deltas2 kept2 header2 e.delta.hash e.delta.totals es) (sym tail_is) x3
+    → next.block.header.round ≡ suc (length (blocks_of kept)) → memory2 ≡ and_round e.delta.header.level e.delta.online memory → last_round memory2 ≡ e.delta.round
+    → IsKeeping chain first base newest deltas2 kept2 header2 e.delta.hash e.delta.totals tail2 memory2
+kept_more chain first base newest deltas deltas2 kept kept2 header header2 hash totals tail tail2 memory memory2 next e k newest_is l spells d_is kept_is header_is tail_is round grown at =
+    let x = more chain first base newest deltas kept header hash totals tail memory memory2 next e k newest_is l spells round grown at in
+    let x1 = subst (λ (q : Queue). IsKeeping chain first base newest q (kept ++ next ∷ []) e.delta.header e.delta.hash e.delta.totals (tail ++ map (λ i. entry_of i.txn) next.block.items) memory2) (sym d_is) x in
+    let x2 = subst (λ (ks : List KeptBlock). IsKeeping chain first base newest deltas2 ks e.delta.header e.delta.hash e.delta.totals (tail ++ map (λ i. entry_of i.txn) next.block.items) memory2) (sym kept_is) x1 in
+    let x3 = subst (λ (h : Header). IsKeeping chain first base newest deltas2 kept2 h e.delta.hash e.delta.totals (tail ++ map (λ i. entry_of i.txn) next.block.items) memory2) (sym header_is) x2 in
+    subst (λ (es : List Entry). IsKeeping chain first base newest deltas2 kept2 header2 e.delta.hash e.delta.totals es memory2) (sym tail_is) x3

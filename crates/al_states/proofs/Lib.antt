@@ -1,3 +1,4 @@
+pub mod MemoryLemmas
 pub mod KeepLemmas
 pub mod OpenLemmas
 pub mod ToldLemmas

@@ -1,6 +1,7 @@
 -- The states of a genesis.
-use Rattle.std.proofs.Common.{◌≤◌, arith, ◌≡◌, ℕ, List, [], refl, ap, sym, subst, ◌∙◌, Err}
+use Rattle.std.proofs.Common.{◌≤◌, arith, ◌≡◌, ℕ, List, [], ◌∷◌, refl, ap, sym, subst, ◌∙◌, Err}
 use Rattle.std.proofs.lemmas.List.Elements.{All-nil}
+use Rattle.std.specs.FinMap.{empty, insert}
 use Rattle.al_block.specs.Block.{IsBlock}
 use Rattle.al_block.specs.declared.block.Block.{Block}
 use Rattle.al_deltas.specs.Queue.{IsKeptDelta, Queue, StoredMap}
@@ -15,19 +16,24 @@ use Rattle.al_moves.specs.Totals.{counts}
 use Rattle.al_genesis.specs.declared.genesis.GenesisFault.{GenesisFault}
 use Rattle.al_genesis.specs.declared.genesis.GenesisFault.TheVariants as faults
 use Rattle.al_genesis.specs.Genesis.{GenesisMeansUnless, number_of}
+use Rattle.al_online.specs.Memory.{Memory}
+use Rattle.al_rows.specs.Rows.{bare}
+use Rattle.al_eval.specs.Snaps.{snap_of}
 use Rattle.al_eval.specs.State.{State, counts_in}
-use Rattle.al_eval.specs.Sound.{Sound}
+use Rattle.al_eval.specs.Sound.{AreNumbered, Sound}
 use Rattle.al_rewards.specs.declared.totals.Totals.{Totals}
 use Rattle.al_states.specs.Keeping.{IsKeeping, origin_of, blocks_of}
+use Rattle.al_states.proofs.MemoryLemmas.{remembers_first}
 
 level_counted : (s : State) (totals : Totals) → totals ≡ counts_in s → totals.level ≡ s.header.level
 unfolding counts
 level_counted s totals e = ap (λ (t : Totals). t.level) e
 
-pub kept_first : (chain : Chain) (first header : Header) (rows : StoredMap) (hash : List ℕ) (totals : Totals) → first ≡ header → hash ≡ header_hash_of first → Sound (origin_of chain header rows) → totals ≡ counts_in (origin_of chain header rows)
-    → IsKeeping chain first rows rows (record { base = 0; deltas = []; totals = totals }) [] header hash totals []
-kept_first chain first header rows hash totals e h sound counted = record {
+pub kept_first : (chain : Chain) (first header : Header) (rows : StoredMap) (hash : List ℕ) (totals : Totals) (memory : Memory) → first ≡ header → hash ≡ header_hash_of first → Sound (origin_of chain header rows) → totals ≡ counts_in (origin_of chain header rows) → memory ≡ record { base = 0; snaps = snap_of header.level (bare rows) ∷ [] }
+    → IsKeeping chain first rows rows (record { base = 0; deltas = []; totals = totals }) [] header hash totals [] memory
+kept_first chain first header rows hash totals memory e h sound counted known = record {
   past = [];
+  snaps = insert empty 0 (snap_of header.level (bare rows));
   follows = ap (λ (x : Header). origin_of chain x rows) e;
   begins = refl;
   level = level_counted (origin_of chain header rows) totals counted ∙ ap (λ (x : Header). x.level) (sym e);
@@ -37,24 +43,26 @@ kept_first chain first header rows hash totals e h sound counted = record {
   tail_is = refl;
   sound = subst (λ (x : Header). Sound (origin_of chain x rows)) (sym e) sound;
   totals_are = counted;
+  online = remembers_first memory (snap_of header.level (bare rows)) known;
   spelled = All-nil (λ (k : KeptBlock). IsBlock k.bytes.items k.block);
+  numbered = All-nil (λ (k : KeptBlock). AreNumbered k.block);
 }
 
-pub kept_begun : (chain : Chain) (first header : Header) (base newest rows : StoredMap) (deltas : Queue) (hash : List ℕ) (totals : Totals) (kept : List KeptBlock) (tail : List Entry) → base ≡ rows → newest ≡ rows → deltas ≡ record { base = 0; deltas = []; totals = totals } → kept ≡ [] → tail ≡ []
-    → first ≡ header → hash ≡ header_hash_of first → Sound (origin_of chain header rows) → totals ≡ counts_in (origin_of chain header rows) → IsKeeping chain first base newest deltas kept header hash totals tail
-kept_begun chain first header base newest rows deltas hash totals kept tail b n d a t e h sound counted =
-    let x = kept_first chain first header rows hash totals e h sound counted in
-    let x1 = subst (λ (q : Queue). IsKeeping chain first rows rows q [] header hash totals []) (sym d) x in
-    let x2 = subst (λ (m : StoredMap). IsKeeping chain first rows m deltas [] header hash totals []) (sym n) x1 in
-    let x3 = subst (λ (m : StoredMap). IsKeeping chain first m newest deltas [] header hash totals []) (sym b) x2 in
-    let x4 = subst (λ (ks : List KeptBlock). IsKeeping chain first base newest deltas ks header hash totals []) (sym a) x3 in
-    subst (λ (ts : List Entry). IsKeeping chain first base newest deltas kept header hash totals ts) (sym t) x4
+pub kept_begun : (chain : Chain) (first header : Header) (base newest rows : StoredMap) (deltas : Queue) (hash : List ℕ) (totals : Totals) (kept : List KeptBlock) (tail : List Entry) (memory : Memory) → base ≡ rows → newest ≡ rows → deltas ≡ record { base = 0; deltas = []; totals = totals } → kept ≡ [] → tail ≡ []
+    → first ≡ header → hash ≡ header_hash_of first → Sound (origin_of chain header rows) → totals ≡ counts_in (origin_of chain header rows) → memory ≡ record { base = 0; snaps = snap_of header.level (bare rows) ∷ [] } → IsKeeping chain first base newest deltas kept header hash totals tail memory
+kept_begun chain first header base newest rows deltas hash totals kept tail memory b n d a t e h sound counted known =
+    let x = kept_first chain first header rows hash totals memory e h sound counted known in
+    let x1 = subst (λ (q : Queue). IsKeeping chain first rows rows q [] header hash totals [] memory) (sym d) x in
+    let x2 = subst (λ (m : StoredMap). IsKeeping chain first rows m deltas [] header hash totals [] memory) (sym n) x1 in
+    let x3 = subst (λ (m : StoredMap). IsKeeping chain first m newest deltas [] header hash totals [] memory) (sym b) x2 in
+    let x4 = subst (λ (ks : List KeptBlock). IsKeeping chain first base newest deltas ks header hash totals [] memory) (sym a) x3 in
+    subst (λ (ts : List Entry). IsKeeping chain first base newest deltas kept header hash totals ts memory) (sym t) x4
 
 -- what they hold
 abbrev held_of : State → List Block → Held
 held_of o bs = record { origin = o; blocks = bs }
 
-pub held_begun : (chain : Chain) (first header : Header) (base rows : StoredMap) (kept : List KeptBlock) → first ≡ header → base ≡ rows → kept ≡ [] → held_of (origin_of chain first base) (blocks_of kept) ≡ held_of (record { chain = chain; header = header; rows = rows; past = [] }) []
+pub held_begun : (chain : Chain) (first header : Header) (base rows : StoredMap) (kept : List KeptBlock) → first ≡ header → base ≡ rows → kept ≡ [] → held_of (origin_of chain first base) (blocks_of kept) ≡ held_of (origin_of chain header rows) []
 held_begun chain first header base rows kept e f a =
     ap (λ (ks : List KeptBlock). held_of (origin_of chain first base) (blocks_of ks)) a
     ∙ ap (λ (h : Header). held_of (origin_of chain h base) []) e

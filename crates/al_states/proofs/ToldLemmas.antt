@@ -128,6 +128,7 @@ eval_posts : (o s : State) (blocks : List Block) (body : List ℕ) (b : Block) (
 eval_posts o s blocks body b (evals.Broken place rule) is next built due = next_posts o s blocks body b true _ is next (judged_step (length blocks) s b next.prev built ∙ ap (refused (length blocks)) due.0)
 eval_posts o s blocks body b (evals.Header field) is next built due = next_posts o s blocks body b true _ is next (judged_step (length blocks) s b next.prev built ∙ ap (refused (length blocks)) due.0)
 eval_posts o s blocks body b (evals.PoolShort pool owed) is next built due = next_posts o s blocks body b true _ is next (judged_step (length blocks) s b next.prev built ∙ ap (refused (length blocks)) due.0)
+eval_posts o s blocks body b (evals.Expired place) is next built due = next_posts o s blocks body b true _ is next (judged_step (length blocks) s b next.prev built ∙ ap (refused (length blocks)) due.0)
 eval_posts o s blocks body b (evals.View never) is next built due = inr refl
 eval_posts o s blocks body b evals.Memory is next built due = absurd due
 
@@ -209,5 +210,6 @@ pub step_refused : (o s : State) (blocks : List Block) (body : List ℕ) (b : Bl
 step_refused o s blocks body b front (evals.Broken place rule) is next built due f = (b, is, (s, next, built, due, f))
 step_refused o s blocks body b front (evals.Header field) is next built due f = (b, is, (s, next, built, due, f))
 step_refused o s blocks body b front (evals.PoolShort pool owed) is next built due f = (b, is, (s, next, built, due, f))
+step_refused o s blocks body b front (evals.Expired place) is next built due f = (b, is, (s, next, built, due, f))
 step_refused o s blocks body b front (evals.View never) is next built due f = (b, is, (s, next, built, due, f))
 step_refused o s blocks body b front evals.Memory is next built due f = tt

@@ -25,7 +25,7 @@ use Rattle.al_states.specs.declared.accepting.AcceptRefusal.{AcceptRefusal}
 use Rattle.al_states.specs.declared.accepting.AcceptRefusal.TheVariants as refusals
 use Rattle.al_states.specs.Built.{is_built}
 use Rattle.al_states.specs.Held.{Held}
-use Rattle.al_states.specs.Replies.{IsBlockOf, broken_at, fork, not_built, short, taken, undecodable, wrong_header, wrong_prev}
+use Rattle.al_states.specs.Replies.{IsBlockOf, broken_at, fork, not_built, not_expired, short, taken, undecodable, wrong_header, wrong_prev}
 
 -- the block is the next one, over this state after the blocks; whether it continues the last one, and is built
 pub record IsNext (o : State) (blocks : List Block) (b : Block) (continues : Bool) (s : State) : Type 0 where
@@ -90,6 +90,7 @@ abbrev pub eval_answer : ℕ → EvalRefusal Never → Answer
 eval_answer front (evals.Broken place rule) = broken_at front place rule
 eval_answer front (evals.Header field) = wrong_header front field
 eval_answer front (evals.PoolShort pool owed) = short front
+eval_answer front (evals.Expired place) = not_expired front place
 eval_answer front (evals.View never) = memory_answer
 eval_answer front evals.Memory = memory_answer
 

@@ -1,5 +1,6 @@
 -- What the states of a ledger keep: the rows at the origin, what each block changes, and the newest rows.
-use Rattle.std.specs.Prelude.{◌≡◌, ℕ, List, [], ◌∷◌, map, All}
+use Rattle.std.specs.Prelude.{◌≡◌, ℕ, List, [], ◌∷◌, length, map, All}
+use Rattle.std.specs.FinMap.{get}
 use Rattle.std.specs.declared.result.Result.{Result}
 use Rattle.std.specs.declared.result.Result.TheVariants.{Ok, Err}
 use Rattle.std.specs.declared.option.Option.{Option}
@@ -15,9 +16,14 @@ use Rattle.al_deltas.specs.Queue.{Queue, StoredMap, IsKeptDelta, after_delta, la
 use Rattle.al_rows.specs.Rows.{bare}
 use Rattle.al_rewards.specs.declared.totals.Totals.{Totals}
 use Rattle.al_moves.specs.Totals.{counts}
+use Rattle.al_online.specs.Laws.{Shows, Snaps}
+use Rattle.al_online.specs.Memory.{IsEachOnce, Memory, top as last_round}
+use Rattle.al_online.specs.Stakes.{Snap, next_snap}
 use Rattle.al_eval.specs.Answers.{IsDeltaOf}
-use Rattle.al_eval.specs.State.{State, counts_in, step, replay}
-use Rattle.al_eval.specs.Sound.{IsStepRefusal, Sound}
+use Rattle.al_eval.specs.Snaps.{snap_of}
+use Rattle.al_eval.specs.Start.{first_state}
+use Rattle.al_eval.specs.State.{State, counts_in, last_snap, step, replay}
+use Rattle.al_eval.specs.Sound.{AreNumbered, IsStepRefusal, Sound}
 use Rattle.al_eval.specs.Refusals.{refusal_of}
 use Rattle.al_eval.specs.declared.before.EvalRefusal.{EvalRefusal}
 use Rattle.al_eval.specs.Past.{entry_of}
@@ -29,7 +35,7 @@ use Rattle.al_states.specs.Held.{Held}
 
 -- the state that a ledger began with
 abbrev pub origin_of : Chain → Header → StoredMap → State
-origin_of chain header rows = record { chain = chain; header = header; rows = rows; past = [] }
+origin_of chain header rows = first_state chain header rows
 
 -- the blocks that are kept, in order
 abbrev pub blocks_of : List KeptBlock → List Block
@@ -46,10 +52,18 @@ abbrev pub caught_up : Option RoundDelta → StoredMap → StoredMap
 caught_up None m = m
 caught_up (Some d) m = after_delta d m
 
--- What is kept is the states of the chain: the rows at the origin, what each block changes, and what the next step begins with. The newest rows may lack what the last block changes, or a part of it: to put that once more gives the rows after the last block
-pub record IsKeeping (chain : Chain) (first : Header) (base newest : StoredMap) (deltas : Queue) (kept : List KeptBlock) (header : Header) (hash : List ℕ) (totals : Totals) (tail : List Entry) : Type 0 where
+-- a memory has each round from the start to this one as a state keeps it, and the state keeps this of the last
+pub record Remembers (memory : Memory) (snaps : Snaps) (round : ℕ) (last : Snap) : Type 0 where
+  pub shows : Shows memory snaps
+  pub from_start : memory.base ≡ 0
+  pub top_is : last_round memory ≡ round
+  pub last_is : get snaps (last_round memory) ≡ Some last
+
+-- What is kept is the states of the chain: the rows at the origin, what each block changes, what consensus may ask of each round, and what the next step begins with. The newest rows may lack what the last block changes, or a part of it: to put that once more gives the rows after the last block
+pub record IsKeeping (chain : Chain) (first : Header) (base newest : StoredMap) (deltas : Queue) (kept : List KeptBlock) (header : Header) (hash : List ℕ) (totals : Totals) (tail : List Entry) (memory : Memory) : Type 0 where
   pub past : List Txn
-  pub follows : Follows (origin_of chain first base) (blocks_of kept) deltas.deltas (record { chain = chain; header = header; rows = rows_after deltas.deltas base; past = past })
+  pub snaps : Snaps
+  pub follows : Follows (origin_of chain first base) (blocks_of kept) deltas.deltas (record { chain = chain; header = header; rows = rows_after deltas.deltas base; past = past; snaps = snaps })
   pub begins : deltas.base ≡ 0
   pub level : deltas.totals.level ≡ first.level
   pub changes : All IsKeptDelta deltas.deltas
@@ -58,7 +72,9 @@ pub record IsKeeping (chain : Chain) (first : Header) (base newest : StoredMap) 
   pub tail_is : tail ≡ map entry_of past
   pub sound : Sound (origin_of chain first base)
   pub totals_are : totals ≡ counts header.level (bare (rows_after deltas.deltas base))
+  pub online : Remembers memory snaps (length (blocks_of kept)) (snap_of header.level (bare (rows_after deltas.deltas base)))
   pub spelled : All (λ k. IsBlock k.bytes.items k.block) kept
+  pub numbered : All (λ k. AreNumbered k.block) kept
 
 -- what the states of a ledger hold
 abbrev pub held : States → Held
@@ -66,7 +82,7 @@ held s = record { origin = origin_of s.before.chain s.first s.base; blocks = blo
 
 -- the states are those of one chain. What `States::open` gives is so, and every call keeps it
 abbrev pub IsStates : States → Type 0
-IsStates s = IsKeeping s.before.chain s.first s.base s.newest s.deltas s.kept.items s.before.header s.before.hash s.before.totals s.tail
+IsStates s = IsKeeping s.before.chain s.first s.base s.newest s.deltas s.kept.items s.before.header s.before.hash s.before.totals s.tail s.online
 
 -- the newest rows lack nothing
 abbrev pub IsNewest : States → Type 0
@@ -78,9 +94,12 @@ pub record IsEvaluated (s : State) (b : Block) (e : Evaluated) : Type 0 where
   pub stepped : step s b ≡ Ok next
   pub rows : next.rows ≡ after_delta e.delta s.rows
   pub totals : e.delta.totals ≡ counts_in next
+  pub online : last_snap next ≡ next_snap next.header.level e.delta.online (last_snap s)
+  pub once : IsEachOnce e.delta.online
   pub is_of : IsDeltaOf b.header e.delta
   pub kept : IsKeptDelta e.delta
   pub entries : e.entries.items ≡ map (λ i. entry_of i.txn) b.items
+  pub numbered : AreNumbered b
 
 -- what a step over a state gives, or why the block is refused
 abbrev pub EvaluatesTo : {F : Type 0} → State → Block → Result Evaluated (EvalRefusal F) → Type 0

@@ -14,8 +14,8 @@ use Rattle.al_rows.specs.Rows.{same_bytes}
 use Rattle.al_rows.specs.declared.row.Row.{Row}
 use Rattle.al_rows.specs.declared.row.Row.TheVariants as rows
 use Rattle.al_rows.specs.declared.stored.Stored.{Stored}
-use Rattle.al_moves.specs.declared.rule.Rule.{Rule}
-use Rattle.al_eval.specs.Steps.{Refusal, broken, header, pool_short}
+use Rattle.al_overlay.specs.declared.rule.Rule.{Rule}
+use Rattle.al_eval.specs.Steps.{Refusal, broken, header, pool_short, expired}
 use Rattle.al_eval.specs.State.{State, step, replay, row_at, level_at}
 use Rattle.al_http.specs.declared.asking.Request.{Request}
 use Rattle.al_http.specs.declared.asking.Request.TheVariants as asks
@@ -99,6 +99,10 @@ wrong_header front field = answers.Refused 422 errors.Header (record nothing { f
 abbrev pub short : ℕ → Answer
 short front = answers.Refused 422 errors.PoolShort (record nothing { front = Some front })
 
+-- 422: the keys of the account at a place of the list have not expired
+abbrev pub not_expired : ℕ → ℕ → Answer
+not_expired front place = answers.Refused 422 errors.Expired (record nothing { front = Some front; place = Some place })
+
 -- 422: a broken rule with its values; rule 42 keeps whose balance it is, and does not show it
 abbrev pub broken_at : ℕ → ℕ → Rule → Answer
 broken_at front place rule =
@@ -114,6 +118,7 @@ refused front (Ok s) = None
 refused front (Err (broken place rule)) = Some (broken_at front place rule)
 refused front (Err (header field)) = Some (wrong_header front field)
 refused front (Err (pool_short pool owed)) = Some (short front)
+refused front (Err (expired place)) = Some (not_expired front place)
 
 -- the refusal by the step of a block that is built
 abbrev pub stepped : ℕ → State → Block → Option Answer

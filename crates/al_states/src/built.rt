@@ -10,8 +10,8 @@ fn is_built_body(body: &Body) -> bool
     ensures { result ≡ is_built_body body.now }
 {
     match body {
-        Body::Pay(_) => true,
-        _ => false,
+        Body::Pay(_) | Body::KeyReg(_) | Body::Config(_) | Body::Move(_) | Body::Freeze(_) => true,
+        Body::App(_) => false,
     }
 }
 
@@ -21,9 +21,9 @@ fn are_built(items: &[Item]) -> bool
     items.iter().all(|i| is_built_body(&i.txn.body))
 }
 
-/// Whether each item of a block is a payment, and no account is listed as expired.
+/// Whether no item of a block calls an application.
 pub fn is_built(block: &Block) -> bool
     ensures { result ≡ is_built block.now }
 {
-    block.header.expired.len() == 0 && are_built(block.items.as_slice())
+    are_built(block.items.as_slice())
 }

@@ -1,14 +1,16 @@
 //! What is kept of the blocks.
 ghost use Rattle.std.specs.Prelude.{◌≡◌, ◌≤◌, ◌^◌, List, [], suc, All, ◌∷◌, ◌++◌, map, OnOk, OnErr};
 ghost use Rattle.al_deltas.specs.Queue.{IsKeptDelta, last_of, top};
+ghost use Rattle.al_online.specs.Memory.{IsEachOnce, and_round, top as last_round};
 ghost use Rattle.al_eval.specs.Past.{entry_of};
 ghost use Rattle.al_eval.specs.Sound.{Sound};
 ghost use Rattle.al_eval.specs.State.{State, before_of};
 ghost use Rattle.al_states.specs.Keeping.{EvaluatesTo, caught_up};
 
 use al_block::Block;
-use al_deltas::{Deltas, KeptRows};
+use al_deltas::{Deltas, KeptRows, RoundDelta};
 use al_eval::{Before, Entry, EvalRefusal, Evaluated, Tail, eval_with_entries};
+use al_online::OnlineMemory;
 use al_rows::Never;
 use std::alloc::{AllocError, Global};
 
@@ -77,23 +79,51 @@ fn take_back(kept: &mut Vec<KeptBlock>, tail: &mut Tail)
     }
 }
 
-// Keeps a block with its transactions and what it changes: all, or nothing.
+// Keeps what a block changes, and what consensus may ask of its round: both, or neither.
+fn keep_delta(
+    deltas: &mut Deltas,
+    online: &mut OnlineMemory,
+    delta: RoundDelta,
+) -> Result<(), AllocError>
+    requires round { delta.round ≡ suc (top deltas.old) }
+    requires most { delta.round ≤ 2 ^ 62 }
+    requires changes { IsKeptDelta delta }
+    requires next { delta.round ≡ suc (last_round online.old) }
+    requires once { IsEachOnce delta.online }
+    ensures ok { OnOk result ((deltas.new ≡ record deltas.old { deltas = deltas.old.deltas ++ delta ∷ [] }) × (online.new ≡ and_round delta.header.level delta.online online.old) × (last_round online.new ≡ delta.round)) }
+    ensures err { OnErr result ((deltas.new ≡ deltas.old) × (online.new ≡ online.old)) }
+{
+    online.push(delta.round, delta.header.level, &delta.online)?;
+    match deltas.push(delta) {
+        Ok(()) => Ok(()),
+        Err(refused) => {
+            online.take_back();
+            Err(refused)
+        }
+    }
+}
+
+// Keeps a block with its transactions, what it changes, and what consensus may ask of its round:
+// all, or nothing.
 pub(crate) fn keep(
     kept: &mut Vec<KeptBlock>,
     tail: &mut Tail,
     deltas: &mut Deltas,
+    online: &mut OnlineMemory,
     next: KeptBlock,
     evaluated: Evaluated,
 ) -> Result<(), AllocError>
     requires round { evaluated.delta.round ≡ suc (top deltas.old) }
     requires most { evaluated.delta.round ≤ 2 ^ 62 }
     requires changes { IsKeptDelta evaluated.delta }
+    requires follows { evaluated.delta.round ≡ suc (last_round online.old) }
+    requires once { IsEachOnce evaluated.delta.online }
     requires entries { evaluated.entries.items ≡ map (λ i. entry_of i.txn) next.block.items }
-    ensures ok { OnOk result ((kept.new.items ≡ kept.old.items ++ next ∷ []) × (tail.new ≡ tail.old ++ map (λ i. entry_of i.txn) next.block.items) × (deltas.new ≡ record deltas.old { deltas = deltas.old.deltas ++ evaluated.delta ∷ [] })) }
-    ensures err { OnErr result ((kept.new.items ≡ kept.old.items) × (tail.new ≡ tail.old) × (deltas.new ≡ deltas.old)) }
+    ensures ok { OnOk result ((kept.new.items ≡ kept.old.items ++ next ∷ []) × (tail.new ≡ tail.old ++ map (λ i. entry_of i.txn) next.block.items) × (deltas.new ≡ record deltas.old { deltas = deltas.old.deltas ++ evaluated.delta ∷ [] }) × (online.new ≡ and_round evaluated.delta.header.level evaluated.delta.online online.old) × (last_round online.new ≡ evaluated.delta.round)) }
+    ensures err { OnErr result ((kept.new.items ≡ kept.old.items) × (tail.new ≡ tail.old) × (deltas.new ≡ deltas.old) × (online.new ≡ online.old)) }
 {
     keep_block(kept, tail, next, evaluated.entries.as_slice())?;
-    match deltas.push(evaluated.delta) {
+    match keep_delta(deltas, online, evaluated.delta) {
         Ok(()) => Ok(()),
         Err(refused) => {
             take_back(kept, tail);

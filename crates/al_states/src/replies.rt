@@ -6,7 +6,7 @@ ghost use Rattle.al_http.specs.declared.answer.Answer.TheVariants as answers;
 ghost use Rattle.al_http.specs.declared.answer.ErrorName.TheVariants as errors;
 ghost use Rattle.al_states.specs.Accepting.{accept_answer, eval_answer, refusal_answer};
 ghost use Rattle.al_states.specs.Looking.{look_answer, row_answer};
-ghost use Rattle.al_states.specs.Replies.{broken_at, misspelled, no_row, short, too_new, undecodable, wrong_header};
+ghost use Rattle.al_states.specs.Replies.{broken_at, misspelled, no_row, not_expired, short, too_new, undecodable, wrong_header};
 
 use crate::{AcceptRefusal, Accepted, LookRefusal, RowAnswer};
 use al_block::{BlockFault, Field};
@@ -138,6 +138,7 @@ fn eval_answer(front: u64, refusal: EvalRefusal<Never>) -> Answer
         EvalRefusal::Broken { place, rule } => broken(front, place, &rule),
         EvalRefusal::Header { field } => wrong_header(front, field),
         EvalRefusal::PoolShort { .. } => short(front),
+        EvalRefusal::Expired { place } => not_expired(front, place),
         EvalRefusal::View(never) => match never {},
         EvalRefusal::Memory => Answer::memory(),
     }
@@ -157,6 +158,16 @@ fn short(front: u64) -> Answer
     ensures { result ≡ short front }
 {
     Answer::refused(ErrorName::PoolShort, More::at_front(front))
+}
+
+fn not_expired(front: u64, place: usize) -> Answer
+    ensures { result ≡ not_expired front place }
+{
+    let more = More {
+        place: Some(place as u64),
+        ..More::at_front(front)
+    };
+    Answer::refused(ErrorName::Expired, more)
 }
 
 // The refusal by a rule.

@@ -3,7 +3,8 @@ ghost use Rattle.std.specs.Prelude.{◌≡◌, ◌≤◌, ◌<◌, ◌^◌, suc,
 ghost use Rattle.std.specs.Option.{option_copied};
 ghost use Rattle.al_block.specs.Block.{IsBlock};
 ghost use Rattle.al_eval.specs.Sound.{Sound};
-ghost use Rattle.al_eval.specs.Start.{start, start_rows, start_totals};
+ghost use Rattle.al_online.specs.Memory.{IsEachOnce};
+ghost use Rattle.al_eval.specs.Start.{start, start_online, start_rows, start_totals};
 ghost use Rattle.al_eval.specs.State.{counts_in, row_at};
 ghost use Rattle.al_http.specs.Answers.{IsSound};
 ghost use Rattle.al_states.specs.Accepting.{Accepts, IsNext};
@@ -25,8 +26,11 @@ use crate::{AcceptRefusal, Accepted, LookRefusal, OpenFault, RowAnswer, Told};
 use al_base::{Address, Key};
 use al_block::{Block, Header, decode_block, header_hash};
 use al_deltas::{Deltas, KeptRows};
-use al_eval::{Before, Evaluated, Genesis, GenesisRow, Tail, start_rows, start_totals};
+use al_eval::{
+    Before, Evaluated, Genesis, GenesisRow, Tail, start_online, start_rows, start_totals,
+};
 use al_http::{Answer, Request};
+use al_online::OnlineMemory;
 use al_rows::Row;
 use std::alloc::{AllocError, Global};
 
@@ -47,6 +51,8 @@ pub struct States {
     // What the next step begins with, and the transactions of the blocks.
     before: Before,
     tail: Tail,
+    // What consensus may ask of each round.
+    online: OnlineMemory,
 }
 
 impl States {
@@ -72,6 +78,7 @@ impl States {
     fn begin(alloc: Global, genesis: Genesis) -> Result<States, AllocError>
         requires ranged { All (λ a. AccountInRange a.row) genesis.accounts }
         requires sound { Sound (start genesis) }
+        requires once { IsEachOnce (start_online genesis.accounts) }
         requires totals { (start_totals genesis.accounts ≡ counts_in (start genesis)) × AreTotals (start_totals genesis.accounts) }
         ensures states { IfOk result (λ s. IsStates s) }
         ensures origin { IfOk result (λ s. held s ≡ record { origin = start genesis; blocks = [] }) }
@@ -81,6 +88,8 @@ impl States {
         let base = first_rows(alloc, genesis.accounts.as_slice())?;
         let newest = first_rows(alloc, genesis.accounts.as_slice())?;
         let totals = start_totals(genesis.accounts.as_slice());
+        let known = start_online(alloc, genesis.accounts.as_slice())?;
+        let online = OnlineMemory::new(alloc, 0, genesis.header.level, &known)?;
         Ok(States {
             alloc,
             first,
@@ -95,6 +104,7 @@ impl States {
                 totals,
             },
             tail: Tail::new(alloc),
+            online,
         })
     }
 
@@ -324,6 +334,7 @@ impl States {
             &mut self.kept,
             &mut self.tail,
             &mut self.deltas,
+            &mut self.online,
             next,
             evaluated,
         )?;
