@@ -1,5 +1,9 @@
-//! Tests of payments over changed rows, over public calls.
+//! Tests of payments and registrations of keys over changed rows, over public calls.
 #![tactic(auto)]
 
 #[cfg(test)]
+mod keys;
+#[cfg(test)]
 mod moves;
+#[cfg(test)]
+mod online;
