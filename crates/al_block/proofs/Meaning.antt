@@ -21,7 +21,7 @@ use Rattle.al_block.specs.declared.decoding.BlockFault.TheVariants as faults
 use Rattle.al_block.specs.Block.{block, block_fault, IsBlock, IsFaulty, BlockMeans, BlockMeansUnless, BlockAnswers}
 use Rattle.al_block.proofs.Same.{block_determined}
 
-of_block : (input : List ℕ) (b : Block) → IsBlock input b → IsRecord block b (block.write b)
+pub of_block : (input : List ℕ) (b : Block) → IsBlock input b → IsRecord block b (block.write b)
 of_block input b m = record {
   fields = refl;
   sound = ap (member_open block.fault) (sym (views.outs-Map (block.write b))) ∙ (first_none _ _ m.sound).0;

@@ -20,6 +20,6 @@ pub use decoding::{BlockFault, MOST_BYTES, decode_block, encode_block};
 pub use hashing::{group_end, header_hash, payset_hash};
 pub use header::{Field, Header};
 pub use header_record::read_header;
-pub use laws::block_laws;
+pub use laws::{block_laws, decoded_is_within};
 pub use payset::{PaysetHashes, payset_hashes};
 pub use ranges::{block_range_laws, header_range_laws};

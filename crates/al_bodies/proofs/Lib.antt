@@ -8,3 +8,5 @@ pub mod Ranged
 pub mod RangedBodies
 pub mod MergedFields
 pub mod RangedEffects
+pub mod Bounds
+pub mod InRange

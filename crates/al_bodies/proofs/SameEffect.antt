@@ -82,7 +82,7 @@ effect_named (effects.Inner t) = number_named (codes "e") 9 (entries inner_effec
 effect_kind : (x : Effect) (es : List Entry) → IsRecord effect x es → number_kind (codes "e") es ≡ Ok (no x)
 effect_kind x es r = ap (number_kind (codes "e")) r.fields ∙ effect_named x
 
-of_effect : {B : Type 0} (fs : List (FieldOf B)) (x : Effect) (y : B) (es : List Entry) → effect_written x ≡ entries fs y → kind_fault (codes "e") effect_rules es (Ok (no x)) ≡ first_fault (rules_of fs) es → IsRecord effect x es → IsRecord (table fs) y es
+pub of_effect : {B : Type 0} (fs : List (FieldOf B)) (x : Effect) (y : B) (es : List Entry) → effect_written x ≡ entries fs y → kind_fault (codes "e") effect_rules es (Ok (no x)) ≡ first_fault (rules_of fs) es → IsRecord effect x es → IsRecord (table fs) y es
 of_effect fs x y es w f r = record {
   fields = r.fields ∙ w;
   sound = sym (ap (kind_fault (codes "e") effect_rules es) (effect_kind x es r) ∙ f) ∙ r.sound;

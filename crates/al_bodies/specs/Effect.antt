@@ -133,6 +133,11 @@ effect = record {
   fault = λ es. kind_fault (codes "e") effect_rules es (number_kind (codes "e") es);
 }
 
+-- what an application's account sends by an effect
+abbrev pub inner_in : Effect → ℕ
+inner_in (effects.Inner i) = 1
+inner_in e = 0
+
 -- the fault of a box's name
 abbrev pub name_fault : List Entry → Option Fault
 name_fault es = unless_range (in_range (shapes.Bytes 1 64) (value_at (codes "n") es)) (codes "n")

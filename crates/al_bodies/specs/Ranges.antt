@@ -1,5 +1,5 @@
 -- The ranges of what a transaction does, and of the effects of a call.
-use Rattle.std.specs.Prelude.{◌≡◌, ◌<◌, ◌≤◌, ◌^◌, ℕ, not, true, length, List, None}
+use Rattle.std.specs.Prelude.{◌≡◌, ◌<◌, ◌≤◌, ◌^◌, ℕ, ⊤, not, true, length, List, None}
 use Rattle.std.specs.List.{list_all}
 use Rattle.al_msgpack.specs.Grammar.{AreBytes}
 use Rattle.al_msgpack.specs.Canonical.{IsCanonical, AreEntries}
@@ -22,7 +22,7 @@ use Rattle.al_bodies.specs.declared.effect.Inner.{Inner}
 use Rattle.al_bodies.specs.declared.effect.Inner.TheVariants as inners_of
 use Rattle.al_bodies.specs.declared.effect.Effect.{Effect}
 use Rattle.al_bodies.specs.declared.effect.Effect.TheVariants as effects
-use Rattle.al_bodies.specs.Effect.{whole_name}
+use Rattle.al_bodies.specs.Effect.{effect, whole_name}
 use Rattle.al_bodies.specs.Kept.{is_kept, are_kept, kept, others, merged}
 
 -- so many bytes
@@ -112,6 +112,22 @@ EffectRanges effects.OptOut = Unit {0}
 EffectRanges (effects.PutBox name value) = IsName (whole_name name) × IsBox value
 EffectRanges (effects.RemoveBox name) = IsName (whole_name name)
 EffectRanges (effects.Inner t) = InnerRanges t
+
+-- the numbers of a schema, the extra pages, states and values of boxes are as few and as short as rows keep them
+abbrev pub EffectInRange : Effect → Type 0
+EffectInRange (effects.Create gu gs lu ls pages state) = (gu ≤ 64) × (gs ≤ 64) × (lu ≤ 64) × (ls ≤ 64) × (pages ≤ 3) × (length state ≤ 8192)
+EffectInRange (effects.SetState state) = length state ≤ 8192
+EffectInRange effects.Remove = ⊤
+EffectInRange (effects.OptIn state) = length state ≤ 8192
+EffectInRange (effects.SetLocal whose state) = length state ≤ 8192
+EffectInRange effects.OptOut = ⊤
+EffectInRange (effects.PutBox name value) = length value ≤ 32768
+EffectInRange (effects.RemoveBox name) = ⊤
+EffectInRange (effects.Inner i) = ⊤
+
+-- an effect with a record is in its range
+abbrev pub EffectsInRange : Type 0
+EffectsInRange = (x : Effect) (es : List Entry) → IsRecord effect x es → EffectInRange x
 
 -- what is written of a value in its ranges is its record
 abbrev pub HaveRecords : {X : Type 0} → (X → Type 0) → Format X → Type 0

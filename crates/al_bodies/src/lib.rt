@@ -21,4 +21,4 @@ pub use body_record::{freeze_of, keyreg_of, move_of, pay_of};
 pub use call_fields::{is_kept, kept, write_merged};
 pub use effect::{Effect, Effects, Inner};
 pub use params::{count_params, read_params, write_params};
-pub use ranges::range_laws;
+pub use ranges::{decoded_in_range, range_laws};

@@ -6,3 +6,4 @@ pub mod Straight
 pub mod Ranged
 pub mod RangedItem
 pub mod RangedGroup
+pub mod InRange

@@ -1,5 +1,6 @@
 -- Lists of records that determine their values.
 use Rattle.std.proofs.Common.{◌≡◌, List, [], ◌∷◌, map, None, refl, sym, ap, ap₂, ◌∙◌}
+use Rattle.std.specs.List.{AllByRecursion}
 use Rattle.al_msgpack.specs.declared.val.Val.{Val, out-Val}
 use Rattle.al_msgpack.specs.declared.val.Val.TheVariants as values
 use Rattle.al_msgpack.specs.declared.val.Val.TheViews as views
@@ -28,3 +29,13 @@ members_determined {X} format d (x ∷ xs) (y ∷ ys) (v ∷ vs) p q n =
     let more_x : map (λ es. values.Map es) (map format.write xs) ≡ vs = cc in
     let more_y : map (λ es. values.Map es) (map format.write ys) ≡ vs = cc in
     ap₂ (λ (z : X) (more : List X). z ∷ more) (d x y _ rx ry) (members_determined format d xs ys vs more_x more_y k.1)
+
+-- a list of records with no fault is one of members with a record each
+pub members_are : {X : Type 0} (format : Format X) (xs : List X) (vs : List Val) → map (λ es. values.Map es) (map format.write xs) ≡ vs → members_fault format.fault vs ≡ None → AllByRecursion (λ x. IsRecord format x (format.write x)) xs
+members_are format [] vs p n = tt
+members_are format (x ∷ xs) [] p n = absurd cc
+members_are format (x ∷ xs) (v ∷ vs) p n =
+    let k = first_none (member_open format.fault (out-Val v)) (members_fault format.fault vs) n in
+    let first : values.Map (format.write x) ≡ v = cc in
+    let rest : map (λ es. values.Map es) (map format.write xs) ≡ vs = cc in
+    (record { fields = refl; sound = ap (member_open format.fault) (sym (views.outs-Map (format.write x)) ∙ ap out-Val first) ∙ k.0 }, members_are format xs vs rest k.1)

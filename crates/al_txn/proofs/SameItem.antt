@@ -13,7 +13,7 @@ use Rattle.al_txn.specs.Txn.{txn}
 use Rattle.al_txn.proofs.Members.{members_determined}
 use Rattle.al_txn.proofs.Same.{txn_determined}
 
-of_item : (i : Item) (es : List Entry) → IsRecord item i es → IsRecord (table (item_fields (most_effects es))) i es
+pub of_item : (i : Item) (es : List Entry) → IsRecord item i es → IsRecord (table (item_fields (most_effects es))) i es
 of_item i es r = record { fields = r.fields; sound = r.sound }
 
 abbrev item_whole : Item → Item

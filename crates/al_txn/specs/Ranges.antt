@@ -1,19 +1,22 @@
 -- The ranges of transactions and of entries of a payset.
-use Rattle.std.specs.Prelude.{◌≡◌, ◌<◌, ◌≤◌, ◌^◌, ◌++◌, ℕ, codes, length, List, []}
+use Rattle.std.specs.Prelude.{◌≡◌, ◌<◌, ◌≤◌, ◌^◌, ◌++◌, ℕ, codes, length, All, List, [], Ok}
 use Rattle.std.specs.List.{AllByRecursion}
 use Rattle.al_digest.specs.Digests.{digest_of}
 use Rattle.al_digest.specs.declared.hashing.Prefix.TheVariants as prefixes
+use Rattle.al_msgpack.specs.declared.val.Val.{Val}
 use Rattle.al_msgpack.specs.declared.val.Val.TheVariants as values
+use Rattle.al_msgpack.specs.declared.val.Entry.{Entry}
 use Rattle.al_msgpack.specs.Places.{IsSpelling}
 use Rattle.al_msgpack.specs.Spelled.{spelled}
-use Rattle.al_record.specs.Columns.{with_entry, list_put}
+use Rattle.al_record.specs.Columns.{IsRecord, with_entry, list_put}
 use Rattle.al_record.specs.Laws.{IsShort}
 use Rattle.al_bodies.specs.declared.body.Body.{Body}
 use Rattle.al_bodies.specs.declared.body.Body.TheVariants as bodies
-use Rattle.al_bodies.specs.Ranges.{IsArray, BodyRanges, EffectRanges}
+use Rattle.al_bodies.specs.Ranges.{IsArray, BodyRanges, EffectRanges, EffectInRange}
 use Rattle.al_txn.specs.declared.txn.Txn.{Txn}
 use Rattle.al_txn.specs.declared.txn.Item.{Item}
 use Rattle.al_txn.specs.Txn.{txn}
+use Rattle.al_txn.specs.Item.{item, ReadsItem}
 use Rattle.al_txn.specs.Ids.{txid_of, group_id_of, member_ids}
 
 -- in a record whose values have containers at most so deep
@@ -56,3 +59,11 @@ SpellsGroups = (items : List Item) → length items < 2 ^ 32 → IsSpelling (val
 -- what the encoder spells is a transaction's one spelling
 abbrev pub EncodesTxns : Type 0
 EncodesTxns = (t : Txn) (bytes : List ℕ) → IsSpelling (values.Map (txn.write t)) bytes → spelled (values.Map (txn.write t)) ≡ bytes
+
+-- the effects of an entry with a record are in their ranges
+abbrev pub ItemsInRange : Type 0
+ItemsInRange = (i : Item) (es : List Entry) → IsRecord item i es → All EffectInRange i.effects
+
+-- so are those of an entry that is decoded
+abbrev pub ReadInRange : Type 0
+ReadInRange = (v : Val) (i : Item) → ReadsItem v (Ok i) → All EffectInRange i.effects

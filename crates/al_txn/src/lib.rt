@@ -32,5 +32,5 @@ pub use form::{Ill, well_formed};
 pub use id::{encode_txn, group_id, txid};
 pub use item::{ItemFault, decode_item, write_with_id};
 pub use laws::txn_laws;
-pub use ranges::{item_range_laws, txn_range_laws};
+pub use ranges::{decoded_item_in_range, item_range_laws, txn_range_laws};
 pub use txn::{Item, Items, Txn};
