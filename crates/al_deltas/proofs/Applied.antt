@@ -31,7 +31,7 @@ at es q = lookup (is_at (key_cmp q)) es
 pub drop_at : {A : Type 0} (xs : List A) (i : ℕ) (x : A) → i < length xs → x ≡ get_or xs i x → drop i xs ≡ x ∷ drop (i + 1) xs
 drop_at xs i x h e = drop-cons xs i x h ∙ ap₂ (λ y ys. y ∷ ys) (sym e) (ap (λ j. drop j xs) (let s : suc i ≡ i + 1 = omega arith in s))
 
-same_key : (k q : Key) → is_at (key_cmp k) q ≡ true → k ≡ q
+pub same_key : (k q : Key) → is_at (key_cmp k) q ≡ true → k ≡ q
 same_key k q e = exact_keys k q (equal (key_cmp k q) e)
 
 turned_at : (k q : Key) → is_at (key_cmp k) q ≡ is_at (key_cmp q) k

@@ -1,3 +1,4 @@
 pub mod Queues
 pub mod Searches
 pub mod Applied
+pub mod Indexes

@@ -2,6 +2,7 @@
 #![tactic(auto)]
 
 mod delta;
+mod index;
 mod kept;
 mod laws;
 mod queue;

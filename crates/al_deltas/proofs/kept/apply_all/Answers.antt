@@ -25,4 +25,5 @@ loop-change-preserved c =
           ∙ c.loop-change.invariant.rest q;
       again = λ q. put_again round cs i x (at old) (at c.apply_one.new.rows.entries) c.loop-change-test.true c.change-item.is (λ p. c.in_ok-apply_one.ensures.ok p) q ∙ c.loop-change.invariant.again q;
       kept = put_kept round x (at old) (at c.apply_one.new.rows.entries) (subst (λ (d : Change). IfSome d.row (IsKept d.key)) (sym c.change-item.is) (c.requires.changed i x c.loop-change-test.true)) c.loop-change.invariant.kept (λ p. c.in_ok-apply_one.ensures.ok p);
+      index = c.apply_one.ensures.index;
     }
