@@ -28,7 +28,7 @@ no_row : (o : Option Row) → ((s : Row) → o ≡ Some s → ⊥) → asset_in 
 no_row None h = refl
 no_row (Some s) h = absurd (h s refl)
 
-module _ (level : ℕ) (special : Special) (start : RowMap) (counter : ℕ) where
+module _ (level : ℕ) (special : Option Special) (start : RowMap) (counter : ℕ) where
   -- ---- one is created, with the next number
 
   module _ (size : ℕ) (who : Address) (p : AssetParams) (m : RowMap) (some : 1 ≤ size) (fits : AssetParamsInRange (Some p)) (rows : Owing level special start counter (counter + 1) 0 m) where

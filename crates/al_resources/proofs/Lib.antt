@@ -1,11 +1,17 @@
 pub mod Steps
 pub mod Recounts
+pub mod Steadies
+pub mod Agrees
+pub mod Payments
 pub mod Puts
 pub mod Owings
 pub mod Issues
 pub mod Shifts
 pub mod Configs
 pub mod Soundness
+pub mod Applications
+pub mod BoxRows
+pub mod Calls
 pub mod Wheres
 pub mod Params
 pub mod Rests

@@ -44,7 +44,7 @@ at_set Q m k o q h g = subst Q (sym (get-set m k o q)) (by_test (is_at (key_cmp 
     by_test false e = g e
 
 -- an account row as it is read back: a zero row is none
-at_unless : (Q : AccountRow → Type 0) (r : AccountRow) → Q r → (r ≡ record no_account { base = r.base } → Q no_account) → Q (account_in (unless_zero (row.Account r)))
+pub at_unless : (Q : AccountRow → Type 0) (r : AccountRow) → Q r → (r ≡ record no_account { base = r.base } → Q no_account) → Q (account_in (unless_zero (row.Account r)))
 unfolding is_zero is_zero_account
 at_unless Q r h g = by_test (is_zero (row.Account r)) refl
   where
@@ -73,12 +73,12 @@ AllInRange m = (k : Key) (r : Row) → get m k ≡ Some r → FieldsInRange k r
 abbrev pub IsForOthers : (Key → Row → ℕ) → Type 0
 IsForOthers w = (who : Address) (r : Row) → w (key.Account who) r ≡ 0
 
-none_weighs : (w : Key → Row → ℕ) → IsForOthers w → (who : Address) (o : Option Row) → weight w (key.Account who) o ≡ 0
+pub none_weighs : (w : Key → Row → ℕ) → IsForOthers w → (who : Address) (o : Option Row) → weight w (key.Account who) o ≡ 0
 none_weighs w h who None = refl
 none_weighs w h who (Some r) = h who r
 
 -- the base of an account, which is 0 where it has no row
-account_based : (level : ℕ) (o : Option Row) → ((r : AccountRow) → o ≡ Some (row.Account r) → is_apart r.status ≡ false → r.base ≤ level) → is_apart (account_in o).status ≡ false → (account_in o).base ≤ level
+pub account_based : (level : ℕ) (o : Option Row) → ((r : AccountRow) → o ≡ Some (row.Account r) → is_apart r.status ≡ false → r.base ≤ level) → is_apart (account_in o).status ≡ false → (account_in o).base ≤ level
 account_based level None h = λ _. omega arith
 account_based level (Some (row.Account r)) h = h r refl
 account_based level (Some (row.Asset a)) h = λ _. omega arith
@@ -132,7 +132,7 @@ alike_itself level m = record { resources = λ _ _. refl; sums = λ _ _. refl; s
 worth_same : (level : ℕ) (r s : AccountRow) → r.status ≡ s.status → r.balance ≡ s.balance → r.base ≡ s.base → worth level (row.Account r) ≡ worth level (row.Account s)
 worth_same level r s p q t = λ i. q i + pending level (record { status = p i; balance = q i; base = t i })
 
-is_row : (b : Bool) (r s : Row) → (if b then None else Some r) ≡ Some s → r ≡ s
+pub is_row : (b : Bool) (r s : Row) → (if b then None else Some r) ≡ Some s → r ≡ s
 is_row true r s e = absurd (none_some s e)
 is_row false r s e = some_same r s e
 

@@ -42,7 +42,7 @@ nothing_moves amount who to apart same = by_test (nat_eq amount 0) refl apart
     by_test true e h = eqb-true amount 0 e
     by_test false e h = absurd (true≢false (sym (ap (λ (a : Address). same_address a who) (sym same) ∙ nat_list_eq_equiv.refl who.0) ∙ h))
 
-module _ (level : ℕ) (special : Special) (start : RowMap) (counter id : ℕ) where
+module _ (level : ℕ) (special : Option Special) (start : RowMap) (counter id : ℕ) where
   abbrev Owes : ℕ → RowMap → Type 0
   Owes debt m = Owing level special start counter id debt m
 
@@ -181,7 +181,7 @@ module _ (level : ℕ) (special : Special) (start : RowMap) (counter id : ℕ) w
 
 -- ---- transfers
 
-module _ (level : ℕ) (special : Special) (start : RowMap) (counter : ℕ) (who : Address) (t : AssetMove) where
+module _ (level : ℕ) (special : Option Special) (start : RowMap) (counter : ℕ) (who : Address) (t : AssetMove) where
   abbrev Stays : RowMap → Type 0
   Stays m = Owing level special start counter t.asset 0 m
 
@@ -219,7 +219,7 @@ module _ (level : ℕ) (special : Special) (start : RowMap) (counter : ℕ) (who
 
 -- ---- freezes
 
-module _ (level : ℕ) (special : Special) (start : RowMap) (counter : ℕ) (who : Address) (f : Freeze) where
+module _ (level : ℕ) (special : Option Special) (start : RowMap) (counter : ℕ) (who : Address) (f : Freeze) where
   abbrev Holds : RowMap → Type 0
   Holds m = Owing level special start counter f.asset 0 m
 

@@ -1,5 +1,5 @@
 -- One step after another, each of which keeps something of the rows or is refused by a rule other than 41 and 53.
-use Rattle.std.proofs.Common.{◌≡◌, refl, Bool, true, false, if◌then◌else◌, Result, Ok, Err}
+use Rattle.std.proofs.Common.{◌≡◌, refl, Bool, true, false, if◌then◌else◌, Option, None, Some, Result, Ok, Err, IfSome}
 use Rattle.al_rows.specs.Rows.{RowMap}
 use Rattle.al_overlay.specs.declared.rule.Rule.{Rule}
 use Rattle.al_overlay.specs.Rules.{then_do}
@@ -17,3 +17,13 @@ ends_if P false x y h g = g refl
 pub ends_as : (P Q : RowMap → Type 0) (due : Result RowMap Rule) → ((n : RowMap) → P n → Q n) → Ends P due → Ends Q due
 ends_as P Q (Ok n) f h = f n h
 ends_as P Q (Err r) f h = h
+
+-- ---- what holds where something is told
+
+pub some_more : {A : Type 0} (P Q : A → Type 0) (o : Option A) → ((x : A) → P x → Q x) → IfSome o P → IfSome o Q
+some_more P Q None f h = tt
+some_more P Q (Some x) f h = f x h
+
+pub some_both : {A : Type 0} (P Q R : A → Type 0) (o : Option A) → ((x : A) → P x → Q x → R x) → IfSome o P → IfSome o Q → IfSome o R
+some_both P Q R None f h g = tt
+some_both P Q R (Some x) f h g = f x h g

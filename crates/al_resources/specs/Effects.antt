@@ -1,5 +1,5 @@
 -- Applications by the effects of calls: created, with states, opted in and out, with boxes, with payments and transfers of their own. Each is what it makes of the rows, or the first rule that it breaks.
-use Rattle.std.specs.Prelude.{ℕ, ◌≤◌, ⊤, List, [], ◌∷◌, All, length, nat_eq, if◌then◌else◌}
+use Rattle.std.specs.Prelude.{ℕ, ⊤, List, [], ◌∷◌, All, nat_eq, if◌then◌else◌}
 use Rattle.std.specs.declared.option.Option.{Option}
 use Rattle.std.specs.declared.option.Option.TheVariants.{None, Some}
 use Rattle.std.specs.declared.result.Result.{Result}
@@ -186,15 +186,3 @@ EffectAsksOne m (effect.Inner i) = InnerAsksOne m i
 -- the application of a call had at most one creator, and so had the asset of each inner transfer
 abbrev pub EffectsAskOne : RowMap → ℕ → List Effect → Type 0
 EffectsAskOne m id effects = HasOneCreator m id × All (EffectAsksOne m) effects
-
--- the numbers of a schema, the extra pages, states and values of boxes are as few and as short as rows keep them
-abbrev pub EffectInRange : Effect → Type 0
-EffectInRange (effect.Create gu gs lu ls pages state) = (gu ≤ 64) × (gs ≤ 64) × (lu ≤ 64) × (ls ≤ 64) × (pages ≤ 3) × (length state ≤ 8192)
-EffectInRange (effect.SetState state) = length state ≤ 8192
-EffectInRange effect.Remove = ⊤
-EffectInRange (effect.OptIn state) = length state ≤ 8192
-EffectInRange (effect.SetLocal whose state) = length state ≤ 8192
-EffectInRange effect.OptOut = ⊤
-EffectInRange (effect.PutBox name value) = length value ≤ 32768
-EffectInRange (effect.RemoveBox name) = ⊤
-EffectInRange (effect.Inner i) = ⊤

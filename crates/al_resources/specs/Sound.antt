@@ -1,5 +1,5 @@
 -- What is sound of rows: money, ids, holdings and counts agree with one another.
-use Rattle.std.specs.Prelude.{◌≡◌, ◌≢◌, ⊤, ℕ, ◌≤◌, Bool, true, false, nat_eq, if◌then◌else◌, length}
+use Rattle.std.specs.Prelude.{◌≡◌, ◌≢◌, ℕ, ◌≤◌, Bool, true, false, nat_eq, if◌then◌else◌, length, IfSome}
 use Rattle.std.specs.declared.option.Option.{Option}
 use Rattle.std.specs.declared.option.Option.TheVariants.{None, Some}
 use Rattle.std.specs.FinMap.{get}
@@ -57,16 +57,16 @@ FieldsInRange (key.Resource who id) (row.App a) = ParamsInRange a.params × Loca
 FieldsInRange (key.Box app name) (row.Box b) = length b.value ≤ 32768
 FieldsInRange k r = ⊥
 
--- what is sound of rows, at a reward level and a count of all transactions
-pub record SoundRows (level counter : ℕ) (special : Special) (m : RowMap) : Type 0 where
+-- What is sound of rows, at a reward level and a count of all transactions. Where sink and pool are told, they are there and do not participate
+pub record SoundRows (level counter : ℕ) (special : Option Special) (m : RowMap) : Type 0 where
   pub money : money level m ≤ max_balance
   pub bases : (k : Key) (r : AccountRow) → get m k ≡ Some (row.Account r) → is_apart r.status ≡ false → r.base ≤ level
   pub ranges : (k : Key) (r : Row) → get m k ≡ Some r → FieldsInRange k r
   pub resources : ResourcesAgree counter m
   pub holdings : (id : ℕ) → total (holding_of id) m ≡ total (issued_of id) m
   pub counts : (who : Address) → CountsAgree m who
-  pub sink : (account m special.sink).status ≡ NotParticipating
-  pub pool : (account m special.pool).status ≡ NotParticipating
+  pub sink : IfSome special (λ s. (account m s.sink).status ≡ NotParticipating)
+  pub pool : IfSome special (λ s. (account m s.pool).status ≡ NotParticipating)
 
 -- a rule other than those on what passes the most: 41 of a balance, 53 of a holding
 abbrev pub IsOtherRule : Rule → Type 0

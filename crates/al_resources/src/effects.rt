@@ -1,8 +1,9 @@
 //! What a call of an application does, by the effects that stand beside it.
 ghost use Rattle.std.specs.Prelude.{◌≡◌, All};
+ghost use Rattle.al_bodies.specs.Ranges.{EffectInRange};
 ghost use Rattle.al_moves.specs.Resources.{app_account};
 ghost use Rattle.al_overlay.specs.Work.{DoesWhere, HasOneCreator};
-ghost use Rattle.al_resources.specs.Effects.{EffectAsksOne, EffectInRange, EffectsAskOne, InnerAsksOne, called, called_with, effect_done, effects_done, inner_done, inner_sent};
+ghost use Rattle.al_resources.specs.Effects.{EffectAsksOne, EffectsAskOne, InnerAsksOne, called, called_with, effect_done, effects_done, inner_done, inner_sent};
 
 use crate::apps::{create, find_app, opt_in, opt_out, remove, set_local, set_state};
 use crate::boxes::{put_box, remove_box};

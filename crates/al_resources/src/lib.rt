@@ -14,6 +14,7 @@ mod configuration;
 mod effects;
 mod freezes;
 mod held;
+mod laws;
 mod transfers;
 mod units;
 
@@ -22,4 +23,5 @@ pub use asset::Issued;
 pub use configuration::configure;
 pub use effects::apply_effects;
 pub use freezes::freeze;
+pub use laws::{assets_are_sound, calls_are_sound, payments_are_sound};
 pub use transfers::transfer;

@@ -1,6 +1,6 @@
 // Calls of an application over a work.
 ghost use Rattle.std.specs.Prelude.{◌≡◌, ◌≤◌, All, IfOk, length};
-ghost use Rattle.al_resources.specs.Effects.{EffectInRange};
+ghost use Rattle.al_bodies.specs.Ranges.{EffectInRange};
 
 use al_base::{Address, BoxName, Bytes};
 use al_moves::{Rule, Stop, Work};

@@ -1,5 +1,5 @@
 use Rattle.std.proofs.Common.{All}
-use Rattle.al_resources.specs.Effects.{EffectInRange}
+use Rattle.al_bodies.specs.Ranges.{EffectInRange}
 use Rattle.al_resources_tests.proofs.calls.effects_of.Given as goal
 
 abbrev pub invariant-loop-step : goal.invariant-loop-step
