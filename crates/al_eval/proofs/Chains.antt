@@ -13,7 +13,7 @@ use Rattle.al_rows.proofs.Maps.{get-map_entries}
 use Rattle.al_rows.proofs.Sames.{same_true}
 use Rattle.al_overlay.specs.Rules.{then_do}
 use Rattle.al_overlay.proofs.Overlays.{get-now}
-use Rattle.al_eval.specs.Past.{entry_of}
+use Rattle.al_tail.specs.Past.{entry_of}
 use Rattle.al_eval.specs.Refusals.{Refusal}
 use Rattle.al_eval.specs.Steps.{block_rows}
 use Rattle.al_eval.specs.State.{State, before_of, counts_in, after, stamp, stamped, step, ChangesLead}

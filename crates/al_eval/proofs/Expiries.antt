@@ -8,9 +8,9 @@ use Rattle.al_moves.specs.Keys as keys
 use Rattle.al_overlay.specs.Rules.{then_do}
 use Rattle.al_moves.proofs.Keyed.{keys_are_fair}
 use Rattle.al_resources.specs.Kept.{Kept}
+use Rattle.al_resources.proofs.Payments.{calm_kept}
 use Rattle.al_eval.specs.Expiry.{all_expired, or_refused}
 use Rattle.al_eval.specs.Refusals.{Refusal, expired, IsDue, Verdict, failed, no_memory, refused}
-use Rattle.al_eval.proofs.Bodies.{calm_kept}
 use Rattle.al_eval.proofs.Registers.{keys_calm}
 
 -- the account at a place of the list, and how it comes out
@@ -54,7 +54,7 @@ ok_rows : (m n : RowMap) → ◌≡◌ {A = Result RowMap Refusal} (Ok m) (Ok n)
 ok_rows m n e = cc
 
 -- they keep what the transactions of a block keep
-pub expired_kept : (level : ℕ) (special : Special) (start : RowMap) (counter round place : ℕ) (accounts : List Address) (m n : RowMap) → all_expired round place accounts m ≡ Ok n → Kept level special start counter m → Kept level special start counter n
+pub expired_kept : (level : ℕ) (special : Option Special) (start : RowMap) (counter round place : ℕ) (accounts : List Address) (m n : RowMap) → all_expired round place accounts m ≡ Ok n → Kept level special start counter m → Kept level special start counter n
 expired_kept level special start counter round place [] m n e k = subst (Kept level special start counter) (ok_rows m n e) k
 expired_kept level special start counter round place (who ∷ more) m n e k = by_one (keys.expired round who m) refl e (λ j. expired_kept level special start counter round (place + 1) more j n)
   where

@@ -37,8 +37,8 @@ use Rattle.al_eval.specs.Start.{with_account, with_accounts, start}
 use Rattle.al_moves.specs.Resources.{CountsAgree, owned, boxes_of, box_bytes_of, assets_held_in, assets_created_in, apps_created_in, apps_opted_in, extra_pages_in, uints_in, byte_slices_in}
 use Rattle.al_resources.specs.Sound.{ResourcesAgree, SoundRows, holding_of, issued_of}
 use Rattle.al_eval.specs.Sound.{StartIsSound}
-use Rattle.al_eval.proofs.Steadies.{Keeps, AllBased, AllInRange, counts_of, at_set, at_unless, no_zero, other_account, keeps_account, keeps_on, keeps_itself}
-use Rattle.al_eval.proofs.Agrees.{resources_agree, counts_agree}
+use Rattle.al_resources.proofs.Steadies.{Keeps, AllBased, AllInRange, counts_of, at_set, at_unless, no_zero, other_account, keeps_account, keeps_on, keeps_itself}
+use Rattle.al_resources.proofs.Agrees.{resources_agree, counts_agree}
 
 -- ---- the rows of a genesis without their rounds
 
@@ -246,7 +246,7 @@ start_is_sound input g is =
     let pool_is : (account (begun xs) is.fields.pool) ≡ account (bare (start g).rows) g.chain.special.pool = ap₂ account rows_are (sym says.pool) in
     let sink_is : (account (begun xs) is.fields.sink) ≡ account (bare (start g).rows) g.chain.special.sink = ap₂ account rows_are (sym says.sink) in
     let few : money 0 (begun xs) ≤ max_balance = omega (arith, seated_money nothing xs, no_money, good.1) in
-    let rows : SoundRows 0 0 g.chain.special (bare (start g).rows) = record {
+    let rows : SoundRows 0 0 (Some g.chain.special) (bare (start g).rows) = record {
       money = subst (λ m. money 0 m ≤ max_balance) rows_are few;
       bases = subst (AllBased 0) rows_are (k.bases (λ q r e. absurd (no_row q (row.Account r) e)));
       ranges = subst AllInRange rows_are (k.ranges (λ q r e. absurd (no_row q r e)));
@@ -257,7 +257,7 @@ start_is_sound input g is =
       pool = ap (λ (r : AccountRow). r.status) (sym pool_is) ∙ pool.0;
     } in
     record {
-      rows = subst (λ n. SoundRows n g.header.counter g.chain.special (bare (start g).rows)) level (subst (λ n. SoundRows 0 n g.chain.special (bare (start g).rows)) counter rows);
+      rows = subst (λ n. SoundRows n g.header.counter (Some g.chain.special) (bare (start g).rows)) level (subst (λ n. SoundRows 0 n (Some g.chain.special) (bare (start g).rows)) counter rows);
       interval = subst (λ n. 1 ≤ n) (sym says.interval) (least_interval is.fields.interval);
       recalc = omega (arith, round, recalc);
       fund = omega (arith, residue, nothing_due, purse, ap (λ (r : AccountRow). r.balance) pool_is);

@@ -9,8 +9,8 @@ use Rattle.al_txn.specs.declared.chain.Chain.{Chain}
 use Rattle.al_txn.specs.declared.txn.Item.{Item}
 use Rattle.al_overlay.specs.declared.rule.Rule.{Rule}
 use Rattle.al_overlay.specs.Rules.{then_do}
-use Rattle.al_eval.specs.declared.tail.Entry.{Entry}
-use Rattle.al_eval.specs.Past.{entry_of}
+use Rattle.al_tail.specs.declared.tail.Entry.{Entry}
+use Rattle.al_tail.specs.Past.{entry_of}
 use Rattle.al_eval.specs.Refusals.{Refusal}
 use Rattle.al_eval.specs.Groups.{group_fault, opened, size_of, unless_broken}
 use Rattle.al_eval.specs.Items.{all_items, at_place, transacted, Ran}

@@ -1,13 +1,9 @@
-pub mod Marks
-pub mod Pasts
 pub mod Lives
 pub mod Asks
 pub mod Ends
 pub mod Nexts
 pub mod Chains
 pub mod Pools
-pub mod Steadies
-pub mod Agrees
 pub mod Others
 pub mod Wells
 pub mod Registers

@@ -35,7 +35,7 @@ use Rattle.al_genesis.specs.declared.genesis.Genesis.{Genesis}
 use Rattle.al_genesis.specs.declared.genesis.GenesisRow.{GenesisRow}
 use Rattle.al_genesis.specs.Genesis.{IsGenesis, addresses_of, first_row}
 use Rattle.al_msgpack.specs.Rising.{rises}
-use Rattle.al_eval.specs.Past.{entry_of}
+use Rattle.al_tail.specs.Past.{entry_of}
 use Rattle.al_eval.specs.Sound.{StartKeepsLast}
 use Rattle.al_eval.specs.Snaps.{all_online, online_in, snap_of}
 use Rattle.al_eval.specs.Start.{start_online, start_rows}
@@ -43,7 +43,7 @@ use Rattle.al_eval.specs.State.{KeepsLast, State, StepKeepsLast, after, before_o
 use Rattle.al_eval.specs.Steps.{block_rows}
 use Rattle.al_eval.proofs.Chains.{bare_stamped, step_ok}
 use Rattle.al_eval.proofs.Firsts.{AllAbove, all_above, bare_accounts, bare_nothing, nothing, rest_rises, seated}
-use Rattle.al_eval.proofs.Steadies.{at_unless}
+use Rattle.al_resources.proofs.Steadies.{at_unless}
 
 equal : (r : Ordering) → is_eq r ≡ true → r ≡ Equal
 equal Less p = cc

@@ -12,8 +12,8 @@ use Rattle.al_txn.specs.declared.txn.Item.{Item}
 use Rattle.al_txn.specs.Form.{first_broken, common_tests, keyreg_tests, move_tests, config_tests, freeze_tests, call_tests, tests_of, body_tests, form_fault}
 use Rattle.al_overlay.specs.declared.rule.Rule.{Rule}
 use Rattle.al_overlay.specs.Rules.{plain_rule}
-use Rattle.al_eval.specs.declared.tail.Entry.{Entry}
-use Rattle.al_eval.specs.Past.{entry_of, has_id}
+use Rattle.al_tail.specs.declared.tail.Entry.{Entry}
+use Rattle.al_tail.specs.Past.{entry_of, has_id}
 use Rattle.al_eval.specs.Groups.{first_at, size_fault, form_rule, forms_fault, group_id_fault, pooled, pool_fault, group_fault, entered, needed, most_members}
 use Rattle.al_eval.specs.Items.{held_until, item_fault}
 use Rattle.al_resources.specs.Sound.{IsOtherRule}

@@ -8,7 +8,7 @@ use Rattle.al_rewards.specs.Next.{least_pool}
 use Rattle.al_overlay.specs.Rules.{then_do}
 use Rattle.al_moves.specs.Money.{units}
 use Rattle.al_eval.specs.declared.before.Before.{Before}
-use Rattle.al_eval.specs.declared.tail.Entry.{Entry}
+use Rattle.al_tail.specs.declared.tail.Entry.{Entry}
 use Rattle.al_eval.specs.Refusals.{Refusal, broken, header, pool_short, expired}
 use Rattle.al_eval.specs.Header.{first_fault, header_checks, rewards_checks, payset_fault, counter_fault, unless_fault}
 use Rattle.al_eval.specs.Pool.{rewards_due, owed_by, pool_paid}
@@ -47,7 +47,7 @@ BlockIs s units past b m (Ok n) = IsPassed s units b m × (is_short s units b m 
 BlockIs s units past b m (Err (broken p r)) = IsPassed s units b m × (is_short s units b m ≡ false) × (items_of s units past b m ≡ Err (broken p r))
 BlockIs s units past b m (Err (header f)) = Unit {0}
 BlockIs s units past b m (Err (expired p)) = Unit {0}
-BlockIs s units past b m (Err (pool_short p o)) = IsPassed s units b m × ((is_short s units b m ≡ true) ⊎ (items_of s units past b m ≡ Err (pool_short p o)))
+BlockIs s units past b m (Err (pool_short p o)) = IsPassed s units b m × ((is_short s units b m ≡ true) ⊎ ((is_short s units b m ≡ false) × (items_of s units past b m ≡ Err (pool_short p o))))
 
 then_none : (P : Result RowMap Refusal → Type 0) (o : Option Field) (m : RowMap) (f : RowMap → Result RowMap Refusal) → ((e : Field) → P (Err (header e))) → (o ≡ None → P (f m)) → P (then_do (unless_fault o m) f)
 then_none P None m f h g = g refl
@@ -68,7 +68,7 @@ last_none P (Some e) n h g = h e
 items_refused : (s : Before) (units : ℕ) (past : List Entry) (b : Block) (m : RowMap) → IsPassed s units b m → is_short s units b m ≡ false → (r : Refusal) → items_of s units past b m ≡ Err r → BlockIs s units past b m (Err r)
 items_refused s units past b m passed enough (broken p r) e = (passed, enough, e)
 items_refused s units past b m passed enough (header f) e = tt
-items_refused s units past b m passed enough (pool_short p o) e = (passed, inr e)
+items_refused s units past b m passed enough (pool_short p o) e = (passed, inr (enough, e))
 items_refused s units past b m passed enough (expired p) e = tt
 
 pub block_is : (s : Before) (units : ℕ) (past : List Entry) (b : Block) (m : RowMap) → BlockIs s units past b m (block_rows s units past b m)

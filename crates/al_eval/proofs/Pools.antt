@@ -41,6 +41,13 @@ raised : (b : Bool) (level by : ℕ) → (if b then level + by else level) ≡ l
 raised true level by = refl
 raised false level by = omega arith
 
+-- the level never falls
+pub never_falls : (s : RewardsState) (round interval pool units : ℕ) → s.level ≤ (next_rewards s round interval pool units).level
+unfolding next_rewards
+never_falls s round interval pool units =
+    let all = fund s round interval pool in
+    omega (arith, raised (gives s.level all units) s.level (all / units))
+
 pub record CanPay (s d : RewardsState) (round pool units : ℕ) : Type 0 where
   pub rises : s.level ≤ d.level
   pub enough : units * (d.level - s.level) + least_pool ≤ pool

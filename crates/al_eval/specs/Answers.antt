@@ -74,7 +74,7 @@ OnlineFollows due old (Err e) = ⊤
 
 -- the rows before a block have at most one creator of each id that it asks for
 abbrev pub AskOne : RowMap → List Item → Type 0
-AskOne m items = All (λ i. AsksOne m i.txn.body) items
+AskOne m items = All (AsksOne m) items
 
 -- what a block changes goes with its header
 pub record IsDeltaOf (h : Header) (d : RoundDelta) : Type 0 where

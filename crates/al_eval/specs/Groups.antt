@@ -8,8 +8,7 @@ use Rattle.std.specs.Option.{option_or, option_map}
 use Rattle.al_block.specs.Hashes.{group_size}
 use Rattle.al_rewards.specs.Totals.{capped}
 use Rattle.al_rows.specs.Rows.{same_bytes}
-use Rattle.al_bodies.specs.declared.effect.Effect.{Effect}
-use Rattle.al_bodies.specs.declared.effect.Effect.TheVariants as effect
+use Rattle.al_bodies.specs.Effect.{inner_in}
 use Rattle.al_txn.specs.declared.chain.Chain.{Chain}
 use Rattle.al_txn.specs.declared.txn.Item.{Item}
 use Rattle.al_txn.specs.Form.{form_fault}
@@ -19,11 +18,6 @@ use Rattle.al_overlay.specs.Rules.{plain_rule, too_few}
 use Rattle.al_eval.specs.Refusals.{Refusal, broken}
 
 -- ---- how many transactions there are
-
--- what an application's account sends by an effect
-abbrev pub inner_in : Effect → ℕ
-inner_in (effect.Inner i) = 1
-inner_in e = 0
 
 -- how many transactions an entry of the payset is: its own, and the inner ones
 abbrev pub size_of : Item → ℕ

@@ -14,8 +14,8 @@ use Rattle.al_overlay.specs.Rules.{then_do, plain_rule, held_until as rule_until
 use Rattle.al_overlay.specs.Accounts.{moved}
 use Rattle.al_moves.specs.Pay.{rekeyed}
 use Rattle.al_moves.specs.Minimum.{checked}
-use Rattle.al_eval.specs.declared.tail.Entry.{Entry}
-use Rattle.al_eval.specs.Past.{entry_of, has_id, is_no_lease, lease_until}
+use Rattle.al_tail.specs.declared.tail.Entry.{Entry}
+use Rattle.al_tail.specs.Past.{entry_of, has_id, is_no_lease, lease_until}
 use Rattle.al_eval.specs.Refusals.{Refusal, broken}
 use Rattle.al_eval.specs.Groups.{size_of, opened}
 use Rattle.al_eval.specs.Body.{Context, done_by}

@@ -1,5 +1,3 @@
-pub mod Past
-pub mod Latest
 pub mod Refusals
 pub mod Header
 pub mod Pool

@@ -24,7 +24,7 @@ use Rattle.al_moves.specs.Totals.{counts}
 use Rattle.al_online.specs.Laws.{Snaps}
 use Rattle.al_online.specs.Stakes.{Snap}
 use Rattle.al_eval.specs.declared.before.Before.{Before}
-use Rattle.al_eval.specs.Past.{entry_of}
+use Rattle.al_tail.specs.Past.{entry_of}
 use Rattle.al_eval.specs.Refusals.{Refusal}
 use Rattle.al_eval.specs.Snaps.{snap_of}
 use Rattle.al_eval.specs.Steps.{block_rows}
@@ -61,7 +61,7 @@ after s b m = record s {
   snaps = insert s.snaps b.header.round (snap_of b.header.level m);
 }
 
--- the step of a block: a new state, or the first refusal. It is the ledger's step where no transaction calls an application
+-- the step of a block: a new state, or the first refusal
 unfoldable pub step : State → Block → Result State Refusal
 step s b = then_do (block_rows (before_of s) (all_units (counts_in s)) (map entry_of s.past) b (bare s.rows)) (λ m. Ok (after s b m))
 

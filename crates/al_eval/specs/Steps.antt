@@ -5,7 +5,7 @@ use Rattle.al_block.specs.declared.block.Block.{Block}
 use Rattle.al_rows.specs.Rows.{RowMap}
 use Rattle.al_overlay.specs.Rules.{then_do}
 use Rattle.al_eval.specs.declared.before.Before.{Before}
-use Rattle.al_eval.specs.declared.tail.Entry.{Entry}
+use Rattle.al_tail.specs.declared.tail.Entry.{Entry}
 pub use Rattle.al_eval.specs.Refusals.{Refusal, broken, header, pool_short, expired}
 use Rattle.al_eval.specs.Header.{first_fault, header_checks, rewards_checks, payset_fault, counter_fault, unless_fault}
 use Rattle.al_eval.specs.Pool.{rewards_due, owed_by, pool_paid}

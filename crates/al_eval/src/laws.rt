@@ -18,14 +18,17 @@ pub fn start_is_counted()
     ensures { StartIsCounted }
 {}
 
-/// A block leads from a sound state to a sound state with the same money, and none is refused
-/// because the pool could not pay, or because a balance would pass the most.
+/// A block that is taken leads from a consistent state to a consistent state, and none is refused
+/// because a balance or a holding would pass the most. From a sound state all its money stays, and
+/// none is refused because the pool could not pay; the state after it is sound where no application
+/// that there is, or that comes next, has the sink or the pool as its account.
 pub fn step_is_sound()
     ensures { StepIsSound }
 {}
 
-/// What a block of a sound state changes, put over the rows before it, gives the rows after it, each
-/// with the round of its last change: those that differ have the block's round, all others theirs.
+/// What a block of a consistent state changes, put over the rows before it, gives the rows after it,
+/// each with the round of its last change: those that differ have the block's round, all others
+/// theirs.
 pub fn rows_follow()
     ensures { RowsFollow }
 {}

@@ -5,17 +5,16 @@ mod before;
 mod expiry;
 mod group;
 mod header;
-mod latest;
 mod laws;
 mod lent;
 mod numbers;
 mod pool;
 mod run;
 mod start;
-mod tail;
 mod transact;
 
 pub use al_genesis::{Genesis, GenesisFault, GenesisRow, GenesisRows};
+pub use al_tail::{Entry, Tail};
 pub use before::{Before, EvalRefusal};
 pub use laws::{
     changes_lead, groups_are_items, items_are_grouped, rows_follow, snaps_are_kept,
@@ -23,4 +22,3 @@ pub use laws::{
 };
 pub use run::{Evaluated, eval, eval_with_entries};
 pub use start::{start_online, start_rows, start_totals};
-pub use tail::{Entry, Tail};

@@ -1,7 +1,8 @@
 //! The numbers of a block, which have 64 bits.
 ghost use Rattle.std.specs.Prelude.{◌<◌, ◌^◌, All, Some};
 ghost use Rattle.al_rows.specs.Rows.{AssetParamsInRange};
-ghost use Rattle.al_eval.specs.Body.{IsNumbered};
+ghost use Rattle.al_bodies.specs.Ranges.{EffectInRange};
+ghost use Rattle.al_eval.specs.Body.{IsItemInRange, IsNumbered};
 
 use al_base::AssetParams;
 use al_txn::{Body, Item};
@@ -29,9 +30,11 @@ fn body_fits(body: &Body)
     }
 }
 
-/// The numbers of what each transaction creates have 64 bits, as every number of a decoded block.
+/// The numbers of what each transaction creates have 64 bits, as every number does, beside effects
+/// in the ranges of their records.
 pub fn numbers_fit(items: &[Item])
-    ensures { All (λ i. IsNumbered i.txn.body) items.now }
+    requires { All (λ i. All EffectInRange i.effects) items.now }
+    ensures { All IsItemInRange items.now }
 {
     for item in items {
         body_fits(&item.txn.body);

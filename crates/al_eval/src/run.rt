@@ -1,17 +1,19 @@
 //! The step of a block over a view.
-ghost use Rattle.std.specs.Prelude.{◌≡◌, ◌≤◌, ◌+◌, ◌^◌, ℕ, true, Ok, IfOk, IfSome, OnOk, map, All};
+ghost use Rattle.std.specs.Prelude.{◌≡◌, ◌≤◌, ◌<◌, ◌+◌, ◌^◌, ℕ, true, Ok, IfOk, IfSome, OnOk, map, sum_by, All};
 ghost use Rattle.std.specs.Ordering.{nat_cmp};
 ghost use Rattle.std.specs.List.Sorted.{IsStrictlySortedBy};
 ghost use Rattle.al_base.specs.Keys.{address_cmp, key_cmp};
 ghost use Rattle.al_block.specs.Hashes.{payset_hash_of};
 ghost use Rattle.al_rows.specs.Rows.{IsKept, bare};
-ghost use Rattle.al_eval.specs.Past.{entry_of, live};
+ghost use Rattle.al_tail.specs.Past.{entry_of, live};
 ghost use Rattle.al_moves.specs.Created.{AreCreatorChanges, creator_change_of};
 ghost use Rattle.al_moves.specs.Online.{AreOnlineChanges, online_change_of};
 ghost use Rattle.al_overlay.specs.Work.{HasOneCreator};
-ghost use Rattle.al_eval.specs.Sound.{AreNumbered, IsStep, Sound};
+ghost use Rattle.al_bodies.specs.Ranges.{EffectInRange};
+ghost use Rattle.al_eval.specs.Sound.{AreInRange, Consistent, IsStep};
 ghost use Rattle.al_eval.specs.State.{State, before_of};
 ghost use Rattle.al_eval.specs.Refusals.{IsCounted};
+ghost use Rattle.al_eval.specs.Groups.{size_of};
 ghost use Rattle.al_eval.specs.Header.{counter_fault, payset_fault};
 ghost use Rattle.al_eval.specs.Pool.{units_before};
 ghost use Rattle.al_eval.specs.Steps.{block_rows};
@@ -23,7 +25,6 @@ use crate::header::{header_fault, rewards_fault};
 use crate::lent::Lent;
 use crate::numbers::numbers_fit;
 use crate::pool::{owed_by, pay_pool, rewards_due};
-use crate::tail::entries_with;
 use crate::transact::all_items;
 use crate::{Before, Entry, EvalRefusal, Tail};
 use al_base::{CreatorChanges, Hash, OnlineChanges};
@@ -32,6 +33,7 @@ use al_deltas::RoundDelta;
 use al_moves::{Stop, Work};
 use al_rewards::Totals;
 use al_rows::{Changes, RowView};
+use al_tail::entries_with;
 use std::alloc::{AllocError, Global};
 
 /// What a block changes, and what is kept of its transactions.
@@ -56,10 +58,10 @@ fn payset_fault(block: &Block, digest: &Hash) -> Option<Field>
 }
 
 // Whether the header's counter is not what is due.
-fn counter_fault(header: &Header, counter: u128) -> Option<Field>
+fn counter_fault(header: &Header, counter: u64) -> Option<Field>
     ensures { result ≡ counter_fault header.now counter }
 {
-    if u128::from(header.counter) == counter {
+    if header.counter == counter {
         None
     } else {
         Some(Field::Tc)
@@ -80,6 +82,8 @@ fn block_rows<V: RowView>(
     requires round { work.old.round ≡ block.now.header.round }
     requires special { work.old.special ≡ before.now.chain.special }
     requires most { block.now.header.round ≤ 2 ^ 62 }
+    requires effects { All (λ i. All EffectInRange i.effects) block.now.items }
+    requires counted { before.now.header.counter + sum_by size_of block.now.items < 2 ^ 64 }
     ensures step { RunsWhere V.tells (AskOne work.old.block block.now.items) (block_rows before.now units past.now block.now work.old.now) work.old work.new result }
     ensures round { OnOk result (block.now.header.round ≡ before.now.header.round + 1) }
     ensures entries { IfOk result (λ es. es.items ≡ map (λ i. entry_of i.txn) block.now.items) }
@@ -147,6 +151,8 @@ fn run_block<V: RowView>(
     requires round { work.old.round ≡ block.now.header.round }
     requires special { work.old.special ≡ before.now.chain.special }
     requires most { block.now.header.round ≤ 2 ^ 62 }
+    requires effects { All (λ i. All EffectInRange i.effects) block.now.items }
+    requires counted { before.now.header.counter + sum_by size_of block.now.items < 2 ^ 64 }
     ensures step { RunsWhere V.tells (AskOne work.old.block block.now.items) (block_rows before.now units past.now block.now work.old.now) work.old work.new result }
     ensures round { OnOk result (block.now.header.round ≡ before.now.header.round + 1) }
     ensures entries { IfOk result (λ t. t.entries.items ≡ map (λ i. entry_of i.txn) block.now.items) }
@@ -203,7 +209,9 @@ fn eval_over<V: RowView>(
     block: &Block,
     answer: &mut Result<Evaluated, EvalRefusal<V::Fault>>,
 ) -> V
-    requires { block.now.header.round ≤ 2 ^ 62 }
+    requires most { block.now.header.round ≤ 2 ^ 62 }
+    requires effects { All (λ i. All EffectInRange i.effects) block.now.items }
+    requires counted { before.now.header.counter + sum_by size_of block.now.items < 2 ^ 64 }
     ensures lender { V.lender result ≡ V.lender view }
     ensures same { V.tells ≡ true → V.rows result ≡ V.rows view }
     ensures step { V.tells ≡ true → AskOne (V.rows view) block.now.items → Evals (block_rows before.now (units_before before.now) past.now block.now (V.rows view)) (V.rows view) (delta_in answer.new) }
@@ -257,13 +265,15 @@ pub fn eval_with_entries<V: RowView>(
     tail: &Tail,
     block: &Block,
 ) -> Result<Evaluated, EvalRefusal<V::Fault>>
-    requires { block.now.header.round ≤ 2 ^ 62 }
+    requires most { block.now.header.round ≤ 2 ^ 62 }
+    requires effects { All (λ i. All EffectInRange i.effects) block.now.items }
+    requires counted { before.now.header.counter + sum_by size_of block.now.items < 2 ^ 64 }
     ensures step { V.tells ≡ true → AskOne (V.rows view.old) block.now.items → Evals (block_rows before.now (units_before before.now) tail.now block.now (V.rows view.old)) (V.rows view.old) (delta_in result) }
     ensures created { V.tells ≡ true → ((id : ℕ) → HasOneCreator (V.rows view.old) id) → CreatorsFollow (block_rows before.now (units_before before.now) tail.now block.now (V.rows view.old)) (V.rows view.old) (delta_in result) }
     ensures totals { V.tells ≡ true → AskOne (V.rows view.old) block.now.items → TotalsFollow (block_rows before.now (units_before before.now) tail.now block.now (V.rows view.old)) before.now block.now.header (V.rows view.old) (delta_in result) }
     ensures stakes { V.tells ≡ true → AskOne (V.rows view.old) block.now.items → OnlineFollows (block_rows before.now (units_before before.now) tail.now block.now (V.rows view.old)) (V.rows view.old) (delta_in result) }
-    ensures sound { V.tells ≡ true → (s : State) → before.now ≡ before_of s → live block.now.header.round tail.now ≡ live block.now.header.round (map entry_of s.past) → V.rows view.old ≡ bare s.rows → Sound s → IsStep s block.now (delta_in result) }
-    ensures numbered { AreNumbered block.now }
+    ensures sound { V.tells ≡ true → (s : State) → before.now ≡ before_of s → live block.now.header.round tail.now ≡ live block.now.header.round (map entry_of s.past) → V.rows view.old ≡ bare s.rows → Consistent s → IsStep s block.now (delta_in result) }
+    ensures ranged { AreInRange block.now }
     ensures cause { IsCounted result (V.failures view.old) (V.failures view.new) }
     ensures same { V.tells ≡ true → V.rows view.new ≡ V.rows view.old }
     ensures entries { IfOk result (λ e. e.entries.items ≡ map (λ i. entry_of i.txn) block.now.items) }
@@ -284,13 +294,17 @@ pub fn eval_with_entries<V: RowView>(
 /// ledger specification: first the header's fields, then the pool pays the rewards, then the digest
 /// of the payset, then each group in order, then the accounts that are listed as expired, and last
 /// the count of transactions. A group is looked at as a whole, and then each of its members in
-/// order. Calls of applications do nothing. `before` tells the totals at the level of the last
-/// block; those of the delta are at the new level. What is said of the step asks that the rows have
-/// at most one creator of each id that the block asks for. Over a sound state, with what is known
-/// of it, and a tail with its live entries, this is the ledger's step: the state after it is sound,
-/// all its money stays, the creators and what consensus knows of accounts are those of its rows,
-/// and the block is never refused because the pool could not pay. Errors: `Memory` also where a
-/// transaction creates something and no number of 64 bits is left.
+/// order; a call of an application does what the effects that stand beside it say. `before` tells
+/// the totals at the level of the last block; those of the delta are at the new level.
+///
+/// The effects are in the ranges of their records, and the count of all transactions of the chain,
+/// with those of the block, fits into 64 bits, as of every decoded block over a decoded header.
+///
+/// What is said of the step asks that the rows have at most one creator of each id that the block
+/// asks for. Over a consistent state, with what is known of it, and a tail with its live entries,
+/// this is the ledger's step: the state after it is consistent, and the creators and what consensus
+/// knows of accounts are those of its rows. Over a sound one all its money stays, the pool can
+/// always pay, and the state after it is sound where it is apart.
 pub fn eval<V: RowView>(
     alloc: Global,
     view: &mut V,
@@ -298,13 +312,15 @@ pub fn eval<V: RowView>(
     tail: &Tail,
     block: &Block,
 ) -> Result<RoundDelta, EvalRefusal<V::Fault>>
-    requires { block.now.header.round ≤ 2 ^ 62 }
+    requires most { block.now.header.round ≤ 2 ^ 62 }
+    requires effects { All (λ i. All EffectInRange i.effects) block.now.items }
+    requires counted { before.now.header.counter + sum_by size_of block.now.items < 2 ^ 64 }
     ensures step { V.tells ≡ true → AskOne (V.rows view.old) block.now.items → Evals (block_rows before.now (units_before before.now) tail.now block.now (V.rows view.old)) (V.rows view.old) result }
     ensures created { V.tells ≡ true → ((id : ℕ) → HasOneCreator (V.rows view.old) id) → CreatorsFollow (block_rows before.now (units_before before.now) tail.now block.now (V.rows view.old)) (V.rows view.old) result }
     ensures totals { V.tells ≡ true → AskOne (V.rows view.old) block.now.items → TotalsFollow (block_rows before.now (units_before before.now) tail.now block.now (V.rows view.old)) before.now block.now.header (V.rows view.old) result }
     ensures stakes { V.tells ≡ true → AskOne (V.rows view.old) block.now.items → OnlineFollows (block_rows before.now (units_before before.now) tail.now block.now (V.rows view.old)) (V.rows view.old) result }
-    ensures sound { V.tells ≡ true → (s : State) → before.now ≡ before_of s → live block.now.header.round tail.now ≡ live block.now.header.round (map entry_of s.past) → V.rows view.old ≡ bare s.rows → Sound s → IsStep s block.now result }
-    ensures numbered { AreNumbered block.now }
+    ensures sound { V.tells ≡ true → (s : State) → before.now ≡ before_of s → live block.now.header.round tail.now ≡ live block.now.header.round (map entry_of s.past) → V.rows view.old ≡ bare s.rows → Consistent s → IsStep s block.now result }
+    ensures ranged { AreInRange block.now }
     ensures cause { IsCounted result (V.failures view.old) (V.failures view.new) }
     ensures same { V.tells ≡ true → V.rows view.new ≡ V.rows view.old }
     ensures ordered { IfOk result (λ d. IsStrictlySortedBy key_cmp (map (λ c. c.key) d.changes)) }

@@ -1,21 +1,21 @@
 //! A transaction over the rows changed so far.
-ghost use Rattle.std.specs.Prelude.{◌≡◌, ◌++◌, ◌∷◌, [], OnOk, map, true};
-ghost use Rattle.al_overlay.specs.Work.{DoesWhere, HasOneCreator, IsDone};
-ghost use Rattle.al_resources.specs.Assets.{configured};
-ghost use Rattle.al_eval.specs.Past.{entry_of, later_of};
+ghost use Rattle.std.specs.Prelude.{◌≡◌, ◌<◌, ◌+◌, ◌^◌, ◌++◌, ◌∷◌, [], OnOk, All, map, sum_by, true};
+ghost use Rattle.al_overlay.specs.Work.{DoesWhere, IsDone};
+ghost use Rattle.al_bodies.specs.Ranges.{EffectInRange};
+ghost use Rattle.al_tail.specs.Past.{entry_of, later_of};
 ghost use Rattle.al_eval.specs.Items.{all_items, applied, at_place, held_until, id_fault, item_fault, lease_fault, transacted, window_fault};
 ghost use Rattle.al_eval.specs.Body.{AsksOne, done_by};
+ghost use Rattle.al_eval.specs.Groups.{size_of};
 ghost use Rattle.al_eval.specs.Turns.{context};
 ghost use Rattle.al_eval.specs.Answers.{AskOne, RunsAll, RunsWhere};
 
 use crate::group::{open, size_of};
 use crate::{Before, Entry, EvalRefusal, Tail};
-use al_base::Address;
 use al_block::Block;
 use al_moves::{Rule, Stop, Work};
-use al_resources::{configure, freeze, transfer};
+use al_resources::{apply_effects, configure, freeze, transfer};
 use al_rows::RowView;
-use al_txn::{Body, Chain, Config, Item, Txn};
+use al_txn::{Body, Chain, Item, Txn};
 use std::alloc::Global;
 
 /// Where a transaction stands.
@@ -24,7 +24,7 @@ pub struct Turn<'a> {
     /// The round of its block.
     pub round: u64,
     /// The number that it gives to what it creates.
-    pub next: u128,
+    pub next: u64,
     /// Its entry of the payset.
     pub item: &'a Item,
     /// What is kept of it.
@@ -45,7 +45,7 @@ fn window_fault(round: u64, txn: &Txn) -> Option<Rule>
 }
 
 // 30: the transaction stands in the chain, or earlier in the block.
-#[tactic(auto, using(crate::proofs::Lives::id_both))]
+#[tactic(auto, using(al_tail::proofs::Lives::id_both))]
 fn id_fault(round: u64, past: &Tail, seen: &Tail, entry: &Entry) -> Option<Rule>
     ensures { result ≡ id_fault round (past.now ++ seen.now) entry.now }
 {
@@ -68,7 +68,7 @@ fn later_of(a: Option<u64>, b: Option<u64>) -> Option<u64>
 }
 
 // The last round that a lease is held by the chain, or earlier in the block.
-#[tactic(auto, using(crate::proofs::Lives::lease_both))]
+#[tactic(auto, using(al_tail::proofs::Lives::lease_both))]
 fn held_until(round: u64, past: &Tail, seen: &Tail, entry: &Entry) -> Option<u64>
     ensures { result ≡ held_until round (past.now ++ seen.now) entry.now }
 {
@@ -106,40 +106,31 @@ fn item_fault(past: &Tail, seen: &Tail, turn: &Turn<'_>) -> Option<Rule>
     lease_fault(turn.round, past, seen, turn.entry)
 }
 
-// Configures an asset. What it creates has a number of 64 bits: a count of transactions that
-// passes them leaves no room for another number.
-fn configure_next<V: RowView>(
-    alloc: Global,
-    work: &mut Work<V>,
-    who: &Address,
-    config: &Config,
-    next: u128,
-) -> Result<(), Stop<V::Fault>>
-    ensures { DoesWhere V.tells (HasOneCreator work.old.block config.now.asset) (configured who.now config.now next work.old.now) work.old work.new result }
-{
-    match u64::try_from(next) {
-        Ok(next) => configure(alloc, work, who, config, next),
-        Err(_) => Err(Stop::Memory),
-    }
-}
-
 // The body of a transaction.
 fn do_body<V: RowView>(
     alloc: Global,
     work: &mut Work<V>,
     turn: &Turn<'_>,
 ) -> Result<(), Stop<V::Fault>>
-    requires { work.old.round ≡ turn.now.round }
-    ensures { DoesWhere V.tells (AsksOne work.old.block turn.now.item.now.txn.body) (done_by turn.now.item.now.txn.body (context work.old.level turn.now) work.old.now) work.old work.new result }
+    requires round { work.old.round ≡ turn.now.round }
+    requires effects { All EffectInRange turn.now.item.now.effects }
+    ensures { DoesWhere V.tells (AsksOne work.old.block turn.now.item.now) (done_by turn.now.item.now.txn.body (context work.old.level turn.now) work.old.now) work.old work.new result }
 {
     let txn = &turn.item.txn;
     match &txn.body {
         Body::Pay(p) => work.pay(&txn.sender, p),
-        Body::Config(c) => configure_next(alloc, work, &txn.sender, c, turn.next),
+        Body::Config(c) => configure(alloc, work, &txn.sender, c, turn.next),
         Body::Move(m) => transfer(work, &txn.sender, m),
         Body::Freeze(f) => freeze(work, &txn.sender, f),
         Body::KeyReg(k) => work.keyreg(&txn.sender, k),
-        Body::App(_) => Ok(()),
+        Body::App(call) => apply_effects(
+            alloc,
+            work,
+            &txn.sender,
+            call,
+            &turn.item.effects,
+            turn.next,
+        ),
     }
 }
 
@@ -153,7 +144,8 @@ fn apply<V: RowView>(
 ) -> Result<(), Stop<V::Fault>>
     requires special { work.old.special ≡ chain.now.special }
     requires round { work.old.round ≡ turn.now.round }
-    ensures { IsDone V.tells (AsksOne work.old.block turn.now.item.now.txn.body) (applied chain.now (context work.old.level turn.now) work.old.now) work.old work.new result }
+    requires effects { All EffectInRange turn.now.item.now.effects }
+    ensures { IsDone V.tells (AsksOne work.old.block turn.now.item.now) (applied chain.now (context work.old.level turn.now) work.old.now) work.old work.new result }
 {
     let txn = &turn.item.txn;
     work.begin();
@@ -176,7 +168,8 @@ fn transact<V: RowView>(
     requires special { work.old.special ≡ chain.now.special }
     requires round { work.old.round ≡ turn.now.round }
     requires entry { turn.now.entry.now ≡ entry_of turn.now.item.now.txn }
-    ensures { IsDone V.tells (AsksOne work.old.block turn.now.item.now.txn.body) (transacted chain.now (past.now ++ seen.now) (context work.old.level turn.now) work.old.now) work.old work.new result }
+    requires effects { All EffectInRange turn.now.item.now.effects }
+    ensures { IsDone V.tells (AsksOne work.old.block turn.now.item.now) (transacted chain.now (past.now ++ seen.now) (context work.old.level turn.now) work.old.now) work.old work.new result }
 {
     if let Some(rule) = item_fault(past, seen, turn) {
         return Err(Stop::Rule(rule));
@@ -197,7 +190,8 @@ fn transact_at<V: RowView>(
     requires special { work.old.special ≡ chain.now.special }
     requires round { work.old.round ≡ turn.now.round }
     requires entry { turn.now.entry.now ≡ entry_of turn.now.item.now.txn }
-    ensures { RunsWhere V.tells (AsksOne work.old.block turn.now.item.now.txn.body) (at_place place (transacted chain.now (past.now ++ seen.now) (context work.old.level turn.now) work.old.now)) work.old work.new result }
+    requires effects { All EffectInRange turn.now.item.now.effects }
+    ensures { RunsWhere V.tells (AsksOne work.old.block turn.now.item.now) (at_place place (transacted chain.now (past.now ++ seen.now) (context work.old.level turn.now) work.old.now)) work.old work.new result }
 {
     match transact(alloc, work, chain, past, seen, turn) {
         Ok(()) => Ok(()),
@@ -220,7 +214,8 @@ fn take_turn<V: RowView>(
     requires special { work.old.special ≡ chain.now.special }
     requires round { work.old.round ≡ turn.now.round }
     requires entry { turn.now.entry.now ≡ entry_of turn.now.item.now.txn }
-    ensures runs { RunsWhere V.tells (AsksOne work.old.block turn.now.item.now.txn.body) (at_place place (transacted chain.now (past.now ++ seen.old) (context work.old.level turn.now) work.old.now)) work.old work.new result }
+    requires effects { All EffectInRange turn.now.item.now.effects }
+    ensures runs { RunsWhere V.tells (AsksOne work.old.block turn.now.item.now) (at_place place (transacted chain.now (past.now ++ seen.old) (context work.old.level turn.now) work.old.now)) work.old work.new result }
     ensures seen { OnOk result (seen.new ≡ seen.old ++ entry_of turn.now.item.now.txn ∷ []) }
 {
     transact_at(alloc, work, chain, past, seen, place, turn)?;
@@ -239,15 +234,17 @@ pub fn all_items<V: RowView>(
     past: &Tail,
     block: &Block,
     entries: &[Entry],
-) -> Result<u128, EvalRefusal<V::Fault>>
+) -> Result<u64, EvalRefusal<V::Fault>>
     requires special { work.old.special ≡ before.now.chain.special }
     requires round { work.old.round ≡ block.now.header.round }
     requires entries { entries.now ≡ map (λ i. entry_of i.txn) block.now.items }
+    requires effects { All (λ i. All EffectInRange i.effects) block.now.items }
+    requires counted { before.now.header.counter + sum_by size_of block.now.items < 2 ^ 64 }
     ensures { RunsAll V.tells (AskOne work.old.block block.now.items) (all_items before.now.chain work.old.level block.now.header.round 0 past.now before.now.header.counter 0 block.now.items work.old.now) work.old work.new result }
 {
     let chain = &before.chain;
     let round = block.header.round;
-    let mut counter = u128::from(before.header.counter);
+    let mut counter = before.header.counter;
     let mut seen = Tail::new(alloc);
     let mut left = 0;
     for (place, item) in block.items.as_slice().iter().enumerate() {
@@ -261,7 +258,7 @@ pub fn all_items<V: RowView>(
             entry,
         };
         take_turn(alloc, work, chain, past, &mut seen, place, &turn)?;
-        counter += u128::from(size_of(item));
+        counter += size_of(item);
     }
     Ok(counter)
 }

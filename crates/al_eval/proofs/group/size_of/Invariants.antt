@@ -1,5 +1,6 @@
 use Rattle.std.proofs.Common.{◌≡◌, ◌≤◌, ◌+◌, drop, sum_by}
-use Rattle.al_eval.specs.Groups.{inner_in, size_of}
+use Rattle.al_bodies.specs.Effect.{inner_in}
+use Rattle.al_eval.specs.Groups.{size_of}
 use Rattle.al_eval.proofs.group.size_of.Given as goal
 
 abbrev pub invariant-loop-effect : goal.invariant-loop-effect
