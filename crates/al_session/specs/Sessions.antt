@@ -9,7 +9,7 @@ use Rattle.al_genesis.specs.declared.genesis.Genesis.{Genesis}
 use Rattle.al_genesis.specs.Genesis.{IsGenesis}
 use Rattle.al_eval.specs.Start.{start}
 use Rattle.al_session.specs.Connection.{Serves}
-use Rattle.al_states.specs.Held.{Held, IsValid, KeepsMoney}
+use Rattle.al_states.specs.Held.{AreApart, Held, IsValid, KeepsMoney}
 use Rattle.al_states.specs.Opening.{IsRefusedGenesis}
 use Rattle.al_states.specs.declared.opening.OpenFault.{OpenFault}
 use Rattle.al_states.specs.declared.opening.OpenFault.TheVariants as faults
@@ -125,7 +125,7 @@ pub record IsShort (before after : Outside) (n : ℕ) : Type 0 where
   pub silent : IsSilent before after
 
 -- the connection was served from the state of the file's genesis, and the status says how it ended; a count of faults of the source
--- or the sink rises only where that fault ended it
+-- or the sink rises only where that fault ended it. That no money is made or lost asks that the states are apart; nothing else does
 pub record IsServed (name : List ℕ) (before after : Outside) (n : ℕ) : Type 0 where
   pub file : List ℕ
   pub holds : Holds before.files name (Some file)
@@ -136,7 +136,7 @@ pub record IsServed (name : List ℕ) (before after : Outside) (n : ℕ) : Type 
   pub end : Ended
   pub serves : Serves (record { origin = start genesis; blocks = [] }) held before.left after.left before.written after.written end
   pub valid : IsValid held.origin held.blocks
-  pub money : KeepsMoney held
+  pub money : AreApart held → KeepsMoney held
   pub status : n ≡ status_of end
   pub source_fault : end ≡ ended.SourceFault → Rose before.source_faults after.source_faults
   pub sink_fault : end ≡ ended.SinkFault → Rose before.sink_faults after.sink_faults

@@ -87,7 +87,8 @@ fn status_of(ended: Ended) -> Status
 /// The status is 0 where the connection finished; 2 where the words are no command; 3 where the
 /// file holds no genesis that is taken; 4 where it could not be read; 5 where the connection ended
 /// otherwise; 7 where there was no memory. With 2, 3 and 4 one line of text is written, and
-/// nothing else.
+/// nothing else. That the sum of all microAlgos stays asks that no state of the chain has an
+/// application whose account is the sink or the pool; all else needs no premise.
 pub fn run<S: Source, T: Sink, F: Folder>(
     alloc: Global,
     words: &Words,

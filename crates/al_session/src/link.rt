@@ -4,7 +4,7 @@ ghost use Rattle.al_base.specs.Causes.{HasCause, Puts, Rose};
 ghost use Rattle.al_http.specs.Answers.{IsSound, answer_text, memory_answer};
 ghost use Rattle.al_http.specs.declared.answer.Answer.{Answer};
 ghost use Rattle.al_session.specs.Connection.{EndsBy, Serves};
-ghost use Rattle.al_states.specs.Held.{KeepsMoney};
+ghost use Rattle.al_states.specs.Held.{AreApart, KeepsMoney};
 ghost use Rattle.al_states.specs.Keeping.{IsStates, held};
 ghost use Rattle.al_session.specs.declared.link.Ended.TheVariants as ended;
 
@@ -92,7 +92,9 @@ fn end<T: Sink>(sink: &mut T, stop: Stop, taken: u64, waiting: usize) -> Ended
 /// Serves one connection: its requests in order, one answer each.
 ///
 /// The requests are those of the bytes taken, however they come in pieces. A posted block that is
-/// accepted is held from its answer on.
+/// accepted is held from its answer on. What is answered needs no premise; that the sum of all
+/// microAlgos stays asks that no state of the chain has an application whose account is the sink or
+/// the pool.
 #[tactic(auto, using(al_states::proofs::SoundLemmas::states_money))]
 pub fn serve_link<S: Source, T: Sink>(
     alloc: Global,
@@ -104,7 +106,7 @@ pub fn serve_link<S: Source, T: Sink>(
     requires { IsStates states.old }
     ensures states { IsStates states.new }
     ensures serves { Serves (held states.old) (held states.new) (S.left source.old) (S.left source.new) (T.written sink.old) (T.written sink.new) result }
-    ensures money { KeepsMoney (held states.new) }
+    ensures money { AreApart (held states.new) → KeepsMoney (held states.new) }
     ensures seen { caller.new.seen ≡ length (held states.new).blocks }
     ensures source_fault { result ≡ ended.SourceFault → Rose (S.faults source.old) (S.faults source.new) }
     ensures sink_fault { result ≡ ended.SinkFault → Rose (T.faults sink.old) (T.faults sink.new) }

@@ -1,5 +1,5 @@
 -- The kept states are those of the chain.
-use Rattle.std.proofs.Common.{length-append, ◌≡◌, ◌≤◌, ◌<◌, ◌-◌, ℕ, zero, suc, List, [], ◌∷◌, ◌++◌, length, take, map, All, get_or, refl, sym, ap, ap₂, ◌∙◌, arith, subst, true, false, Result, Ok, Err, Option, Some, None, IfOk, IfSome, option_map}
+use Rattle.std.proofs.Common.{length-append, ◌≡◌, ◌≤◌, ◌<◌, ◌-◌, ◌^◌, ℕ, zero, suc, List, [], ◌∷◌, ◌++◌, length, take, map, All, get_or, refl, sym, ap, ap₂, ◌∙◌, arith, subst, true, false, Result, Ok, Err, Option, Some, None, IfOk, IfSome, option_map}
 use Rattle.std.proofs.lemmas.List.{map-append, length-map}
 use Rattle.std.proofs.lemmas.List.Elements.{All-push, recursion_from_All}
 use Rattle.std.specs.List.{AllByRecursion}
@@ -13,6 +13,7 @@ use Rattle.al_block.specs.Block.{block, IsBlock}
 use Rattle.al_block.specs.declared.block.Block.{Block}
 use Rattle.al_block.specs.declared.header.Header.{Header}
 use Rattle.al_block.specs.Hashes.{header_hash_of}
+use Rattle.al_block.proofs.Within.{is_within}
 use Rattle.al_deltas.specs.declared.delta.RoundDelta.{RoundDelta}
 use Rattle.al_deltas.specs.Queue.{Queue, StoredMap, IsKeptDelta, after_delta, last_change, last_of, left_by, level_after, rows_after, stored_at, top, up_to}
 use Rattle.al_deltas.proofs.Queues.{last_pushed, rows_are, rows_then}
@@ -29,12 +30,12 @@ use Rattle.al_overlay.specs.Rules.{then_do}
 use Rattle.al_moves.specs.Totals.{counts}
 use Rattle.al_eval.specs.Answers.{IsDeltaOf}
 use Rattle.al_eval.specs.Evaluated.{delta_in}
-use Rattle.al_eval.specs.Past.{entry_of}
-use Rattle.al_eval.specs.Sound.{AreNumbered, IsStep}
+use Rattle.al_tail.specs.Past.{entry_of}
+use Rattle.al_eval.specs.Sound.{AreInRange, IsStep}
 use Rattle.al_eval.specs.declared.before.Before.{Before}
 use Rattle.al_eval.specs.declared.before.EvalRefusal.{EvalRefusal}
 use Rattle.al_eval.specs.declared.run.Evaluated.{Evaluated}
-use Rattle.al_eval.specs.declared.tail.Entry.{Entry}
+use Rattle.al_tail.specs.declared.tail.Entry.{Entry}
 use Rattle.al_eval.specs.Steps.{Refusal}
 use Rattle.al_eval.specs.Snaps.{snap_of}
 use Rattle.al_eval.specs.State.{State, before_of, last_snap, step, replay, row_at, row_in, level_at, level_in}
@@ -199,8 +200,8 @@ before_is s k = ap₂ (known s.before) k.hash_is k.totals_are
 -- what a step gives over the stored rows
 pub evaluates : {F : Type 0} (s : State) (b : Block) (r : Result Evaluated (EvalRefusal F)) → IsStep s b (delta_in r) → IfOk r (λ e. e.entries.items ≡ map (λ i. entry_of i.txn) b.items) → IfOk r (λ e. IsDeltaOf b.header e.delta)
     → IfOk r (λ e. IsStrictlySortedBy key_cmp (map (λ c. c.key) e.delta.changes)) → IfOk r (λ e. All (λ c. IfSome c.row (IsKept c.key)) e.delta.changes)
-    → IfOk r (λ e. IsStrictlySortedBy address_cmp (map (λ c. c.address) e.delta.online)) → AreNumbered b → EvaluatesTo s b r
-evaluates s b (Ok e) h entries is_of ordered kept rising numbered = record {
+    → IfOk r (λ e. IsStrictlySortedBy address_cmp (map (λ c. c.address) e.delta.online)) → AreInRange b → EvaluatesTo s b r
+evaluates s b (Ok e) h entries is_of ordered kept rising ranged = record {
   next = h.0;
   stepped = h.1.stepped;
   rows = rows_follow s h.0 b e.delta is_of h.1;
@@ -210,9 +211,9 @@ evaluates s b (Ok e) h entries is_of ordered kept rising numbered = record {
   is_of = is_of;
   kept = record { ordered = ordered; kept = kept };
   entries = entries;
-  numbered = numbered;
+  ranged = ranged;
 }
-evaluates s b (Err e) h entries is_of ordered kept rising numbered = h
+evaluates s b (Err e) h entries is_of ordered kept rising ranged = h
 
 -- ---- the newest rows
 
@@ -237,12 +238,13 @@ kept_newest chain first base newest newest2 deltas kept header hash totals tail 
   changes = k.changes;
   newest_is = same ∙ k.newest_is;
   hash_is = k.hash_is;
+  few = k.few;
   tail_is = k.tail_is;
   sound = k.sound;
   totals_are = k.totals_are;
   online = k.online;
   spelled = k.spelled;
-  numbered = k.numbered;
+  ranged = k.ranged;
 }
 
 -- ---- one block more
@@ -298,12 +300,13 @@ more chain first base newest deltas kept header hash totals tail memory memory2 
       changes = All-push IsKeptDelta deltas.deltas d k.changes x.kept;
       newest_is = ap (λ y. caught_up y newest) (last_pushed deltas.deltas d) ∙ ap (after_delta d) newest_is ∙ sym then;
       hash_is = x.is_of.hash ∙ ap header_hash_of (sym x.is_of.header);
+      few = subst (λ (h : Header). h.counter ≤ 2 ^ 62) (sym x.is_of.header) (is_within next.bytes.items b spells).counter;
       tail_is = ap (λ es. es ++ map (λ i. entry_of i.txn) b.items) k.tail_is ∙ ap (λ es. map entry_of k.past ++ es) (mapped b.items) ∙ sym (map-append entry_of k.past (map (λ i. i.txn) b.items));
       sound = k.sound;
       totals_are = x.totals ∙ ap₂ (λ (h : Header) (m : StoredMap). counts h.level (bare m)) head rows;
       online = subst (λ n. Remembers memory2 snaps n snap) (sym long) remembered;
       spelled = All-push (λ (y : KeptBlock). IsBlock y.bytes.items y.block) kept next k.spelled spells;
-      numbered = All-push (λ (y : KeptBlock). AreNumbered y.block) kept next k.numbered x.numbered;
+      ranged = All-push (λ (y : KeptBlock). AreInRange y.block) kept next k.ranged x.ranged;
     }
 
 pub kept_more : (chain : Chain) (first : Header) (base newest : StoredMap) (deltas deltas2 : Queue) (kept kept2 : List KeptBlock) (header header2 : Header) (hash : List ℕ) (totals : Totals) (tail tail2 : List Entry) (memory memory2 : Memory) (next : KeptBlock) (e : Evaluated)

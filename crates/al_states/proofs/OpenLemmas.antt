@@ -1,11 +1,11 @@
 -- The states of a genesis.
-use Rattle.std.proofs.Common.{◌≤◌, arith, ◌≡◌, ℕ, List, [], ◌∷◌, refl, ap, sym, subst, ◌∙◌, Err}
+use Rattle.std.proofs.Common.{◌≤◌, ◌^◌, arith, ◌≡◌, ℕ, List, [], ◌∷◌, refl, ap, sym, subst, ◌∙◌, Err}
 use Rattle.std.proofs.lemmas.List.Elements.{All-nil}
 use Rattle.std.specs.FinMap.{empty, insert}
 use Rattle.al_block.specs.Block.{IsBlock}
 use Rattle.al_block.specs.declared.block.Block.{Block}
 use Rattle.al_deltas.specs.Queue.{IsKeptDelta, Queue, StoredMap}
-use Rattle.al_eval.specs.declared.tail.Entry.{Entry}
+use Rattle.al_tail.specs.declared.tail.Entry.{Entry}
 use Rattle.al_states.specs.declared.keeping.KeptBlock.{KeptBlock}
 use Rattle.al_states.specs.Held.{Held}
 use Rattle.al_states.specs.Opening.{Opens, IsRefusedGenesis, fault_of}
@@ -13,14 +13,15 @@ use Rattle.al_txn.specs.declared.chain.Chain.{Chain}
 use Rattle.al_block.specs.declared.header.Header.{Header}
 use Rattle.al_block.specs.Hashes.{header_hash_of}
 use Rattle.al_moves.specs.Totals.{counts}
+use Rattle.al_genesis.specs.declared.genesis.Genesis.{Genesis}
 use Rattle.al_genesis.specs.declared.genesis.GenesisFault.{GenesisFault}
 use Rattle.al_genesis.specs.declared.genesis.GenesisFault.TheVariants as faults
-use Rattle.al_genesis.specs.Genesis.{GenesisMeansUnless, number_of}
+use Rattle.al_genesis.specs.Genesis.{GenesisMeansUnless, IsGenesis, number_of}
 use Rattle.al_online.specs.Memory.{Memory}
 use Rattle.al_rows.specs.Rows.{bare}
 use Rattle.al_eval.specs.Snaps.{snap_of}
 use Rattle.al_eval.specs.State.{State, counts_in}
-use Rattle.al_eval.specs.Sound.{AreNumbered, Sound}
+use Rattle.al_eval.specs.Sound.{AreInRange, Sound}
 use Rattle.al_rewards.specs.declared.totals.Totals.{Totals}
 use Rattle.al_states.specs.Keeping.{IsKeeping, origin_of, blocks_of}
 use Rattle.al_states.proofs.MemoryLemmas.{remembers_first}
@@ -29,9 +30,9 @@ level_counted : (s : State) (totals : Totals) → totals ≡ counts_in s → tot
 unfolding counts
 level_counted s totals e = ap (λ (t : Totals). t.level) e
 
-pub kept_first : (chain : Chain) (first header : Header) (rows : StoredMap) (hash : List ℕ) (totals : Totals) (memory : Memory) → first ≡ header → hash ≡ header_hash_of first → Sound (origin_of chain header rows) → totals ≡ counts_in (origin_of chain header rows) → memory ≡ record { base = 0; snaps = snap_of header.level (bare rows) ∷ [] }
+pub kept_first : (chain : Chain) (first header : Header) (rows : StoredMap) (hash : List ℕ) (totals : Totals) (memory : Memory) → first ≡ header → hash ≡ header_hash_of first → Sound (origin_of chain header rows) → header.counter ≤ 2 ^ 62 → totals ≡ counts_in (origin_of chain header rows) → memory ≡ record { base = 0; snaps = snap_of header.level (bare rows) ∷ [] }
     → IsKeeping chain first rows rows (record { base = 0; deltas = []; totals = totals }) [] header hash totals [] memory
-kept_first chain first header rows hash totals memory e h sound counted known = record {
+kept_first chain first header rows hash totals memory e h sound few counted known = record {
   past = [];
   snaps = insert empty 0 (snap_of header.level (bare rows));
   follows = ap (λ (x : Header). origin_of chain x rows) e;
@@ -40,23 +41,28 @@ kept_first chain first header rows hash totals memory e h sound counted known = 
   changes = All-nil IsKeptDelta;
   newest_is = refl;
   hash_is = h ∙ ap header_hash_of e;
+  few = few;
   tail_is = refl;
   sound = subst (λ (x : Header). Sound (origin_of chain x rows)) (sym e) sound;
   totals_are = counted;
   online = remembers_first memory (snap_of header.level (bare rows)) known;
   spelled = All-nil (λ (k : KeptBlock). IsBlock k.bytes.items k.block);
-  numbered = All-nil (λ (k : KeptBlock). AreNumbered k.block);
+  ranged = All-nil (λ (k : KeptBlock). AreInRange k.block);
 }
 
 pub kept_begun : (chain : Chain) (first header : Header) (base newest rows : StoredMap) (deltas : Queue) (hash : List ℕ) (totals : Totals) (kept : List KeptBlock) (tail : List Entry) (memory : Memory) → base ≡ rows → newest ≡ rows → deltas ≡ record { base = 0; deltas = []; totals = totals } → kept ≡ [] → tail ≡ []
-    → first ≡ header → hash ≡ header_hash_of first → Sound (origin_of chain header rows) → totals ≡ counts_in (origin_of chain header rows) → memory ≡ record { base = 0; snaps = snap_of header.level (bare rows) ∷ [] } → IsKeeping chain first base newest deltas kept header hash totals tail memory
-kept_begun chain first header base newest rows deltas hash totals kept tail memory b n d a t e h sound counted known =
-    let x = kept_first chain first header rows hash totals memory e h sound counted known in
+    → first ≡ header → hash ≡ header_hash_of first → Sound (origin_of chain header rows) → header.counter ≤ 2 ^ 62 → totals ≡ counts_in (origin_of chain header rows) → memory ≡ record { base = 0; snaps = snap_of header.level (bare rows) ∷ [] } → IsKeeping chain first base newest deltas kept header hash totals tail memory
+kept_begun chain first header base newest rows deltas hash totals kept tail memory b n d a t e h sound few counted known =
+    let x = kept_first chain first header rows hash totals memory e h sound few counted known in
     let x1 = subst (λ (q : Queue). IsKeeping chain first rows rows q [] header hash totals [] memory) (sym d) x in
     let x2 = subst (λ (m : StoredMap). IsKeeping chain first rows m deltas [] header hash totals [] memory) (sym n) x1 in
     let x3 = subst (λ (m : StoredMap). IsKeeping chain first m newest deltas [] header hash totals [] memory) (sym b) x2 in
     let x4 = subst (λ (ks : List KeptBlock). IsKeeping chain first base newest deltas ks header hash totals [] memory) (sym a) x3 in
     subst (λ (ts : List Entry). IsKeeping chain first base newest deltas kept header hash totals ts memory) (sym t) x4
+
+-- a genesis has created nothing
+pub begun_few : (input : List ℕ) (g : Genesis) → IsGenesis input g → g.header.counter ≤ 2 ^ 62
+begun_few input g is = subst (λ (h : Header). h.counter ≤ 2 ^ 62) (sym is.says.header) (omega arith)
 
 -- what they hold
 abbrev held_of : State → List Block → Held

@@ -1,105 +1,87 @@
--- The states that are kept are sound, and no money is made or lost.
-use Rattle.std.proofs.Common.{◌≡◌, ◌≤◌, ◌^◌, ℕ, zero, suc, List, [], ◌∷◌, take, drop, codes, ap, ◌∙◌, subst, sym, refl, Bool, true, false, leb-true, nat_le, Option, None, Some, Result, Ok, Err}
+-- The states that are kept are consistent; where each is apart, each is sound, and no money is made or lost.
+use Rattle.std.proofs.Common.{◌≡◌, ◌+◌, ◌≤◌, ◌<◌, ◌^◌, ℕ, zero, suc, List, [], ◌∷◌, length, sum_by, take, ap, ◌∙◌, arith, subst, sym, refl, Result, Ok, Err}
 use Rattle.std.proofs.lemmas.List.Elements.{recursion_from_All}
 use Rattle.std.specs.List.{AllByRecursion}
-use Rattle.al_msgpack.specs.declared.val.Entry.{Entry}
-use Rattle.al_msgpack.specs.declared.val.Val.TheViews as views
-use Rattle.al_record.specs.declared.fault.Fault.{Fault}
-use Rattle.al_record.specs.declared.fault.Fault.TheVariants.{Range}
-use Rattle.al_record.specs.Columns.{Rule, range_fault, rules_of, unless_range, value_at, number_of, map_of, member_open, IsRecord}
-use Rattle.al_record.proofs.Engine.{first_none}
-use Rattle.al_record.proofs.Laws.{record_shows}
 use Rattle.al_block.specs.declared.block.Block.{Block}
-use Rattle.al_block.specs.declared.header.Header.{Header}
+use Rattle.al_block.specs.Block.{IsBlock}
+use Rattle.al_block.proofs.Within.{is_within}
 use Rattle.al_deltas.specs.declared.delta.RoundDelta.{RoundDelta}
-use Rattle.al_block.specs.Block.{IsBlock, block, block_fields}
-use Rattle.al_block.specs.Header.{header, header_fields}
 use Rattle.al_overlay.specs.Rules.{then_do}
+use Rattle.al_eval.specs.Groups.{size_of}
 use Rattle.al_eval.specs.Steps.{Refusal}
 use Rattle.al_eval.specs.State.{State, step, replay}
-use Rattle.al_eval.specs.Sound.{AreNumbered, Sound}
-use Rattle.al_eval.proofs.Sounds.{step_sound, step_keeps}
+use Rattle.al_eval.specs.Sound.{AreInRange, Consistent, Sound}
+use Rattle.al_eval.proofs.Sounds.{consistent_of, step_consistent, step_keeps, step_sound}
 use Rattle.al_states.specs.declared.keeping.KeptBlock.{KeptBlock}
 use Rattle.al_states.specs.declared.states.States.{States}
-use Rattle.al_states.specs.Held.{KeepsMoney, money_in}
+use Rattle.al_states.specs.Held.{AreApart, KeepsMoney, money_in}
 use Rattle.al_states.specs.Keeping.{Follows, IsStates, blocks_of, held}
-use Rattle.al_states.proofs.KeepLemmas.{last_state}
+use Rattle.al_states.proofs.KeepLemmas.{last_state, replay-then}
 
--- blocks whose numbers have 64 bits
-abbrev AllNumbered : List Block → Type 0
-AllNumbered bs = AllByRecursion AreNumbered bs
+-- blocks whose numbers have 64 bits and whose effects are in their ranges
+abbrev AllInRange : List Block → Type 0
+AllInRange bs = AllByRecursion AreInRange bs
 
-of_kept : (kept : List KeptBlock) → AllByRecursion (λ (k : KeptBlock). AreNumbered k.block) kept → AllNumbered (blocks_of kept)
+of_kept : (kept : List KeptBlock) → AllByRecursion (λ (k : KeptBlock). AreInRange k.block) kept → AllInRange (blocks_of kept)
 of_kept [] h = tt
 of_kept (k ∷ kept) h = (h.0, of_kept kept h.1)
 
 -- those that are held
-held_numbered : (s : States) → IsStates s → AllNumbered (held s).blocks
-held_numbered s k = of_kept s.kept.items (recursion_from_All (λ (x : KeptBlock). AreNumbered x.block) s.kept.items k.numbered)
+held_ranged : (s : States) → IsStates s → AllInRange (held s).blocks
+held_ranged s k = of_kept s.kept.items (recursion_from_All (λ (x : KeptBlock). AreInRange x.block) s.kept.items k.ranged)
 
-first_numbered : (n : ℕ) (bs : List Block) → AllNumbered bs → AllNumbered (take n bs)
-first_numbered zero bs h = tt
-first_numbered (suc n) [] h = tt
-first_numbered (suc n) (b ∷ bs) h = (h.0, first_numbered n bs h.1)
+follows_consistent : (o last : State) (bs : List Block) (ds : List RoundDelta) → AllInRange bs → Consistent o → Follows o bs ds last → Consistent last
+follows_consistent o last [] [] ranged h e = subst Consistent e h
+follows_consistent o last [] (d ∷ ds) ranged h f = absurd f
+follows_consistent o last (b ∷ bs) [] ranged h f = absurd f
+follows_consistent o last (b ∷ bs) (d ∷ ds) ranged h (n, stepped, rows, head, rest) = follows_consistent n last bs ds ranged.1 (step_consistent o n b ranged.0 h stepped) rest
 
-follows_sound : (o last : State) (bs : List Block) (ds : List RoundDelta) → AllNumbered bs → Sound o → Follows o bs ds last → Sound last
-follows_sound o last [] [] numbered h e = subst Sound e h
-follows_sound o last [] (d ∷ ds) numbered h f = absurd f
-follows_sound o last (b ∷ bs) [] numbered h f = absurd f
-follows_sound o last (b ∷ bs) (d ∷ ds) numbered h (n, stepped, rows, head, rest) = follows_sound n last bs ds numbered.1 (step_sound o n b numbered.0 h stepped) rest
+-- the state that the next step begins with is consistent
+pub last_consistent : (s : States) (k : IsStates s) → Consistent (last_state s k)
+last_consistent s k = follows_consistent (held s).origin (last_state s k) (held s).blocks s.deltas.deltas (held_ranged s k) (consistent_of (held s).origin k.sound) k.follows
 
--- the state that the next step begins with is sound
-pub last_sound : (s : States) (k : IsStates s) → Sound (last_state s k)
-last_sound s k = follows_sound (held s).origin (last_state s k) (held s).blocks s.deltas.deltas (held_numbered s k) k.sound k.follows
+-- ---- where each state is apart
 
 then_replayed : (due : Result State Refusal) (bs : List Block) (t : State) → then_do due (λ s. replay s bs) ≡ Ok t → (s : State) × (due ≡ Ok s) × (replay s bs ≡ Ok t)
 then_replayed (Ok s) bs t e = (s, refl, e)
 then_replayed (Err r) bs t e = absurd (let x : ◌≡◌ {A = Result State Refusal} (Err r) (Ok t) = e in cc)
 
-replay_keeps : (s t : State) (bs : List Block) → AllNumbered bs → Sound s → replay s bs ≡ Ok t → money_in t ≡ money_in s
-replay_keeps s t [] numbered h e = let same : s ≡ t = cc in ap money_in (sym same)
-replay_keeps s t (b ∷ bs) numbered h e =
-    let n = then_replayed (step s b) bs t e in
-    replay_keeps n.0 t bs numbered.1 (step_sound s n.0 b numbered.0 h n.1) n.2 ∙ step_keeps s n.0 b numbered.0 h n.1
+-- a sound state with the money of another
+abbrev IsLikeFrom : State → State → Type 0
+IsLikeFrom s t = Sound t × (money_in t ≡ money_in s)
+
+same_like : (s t : State) → Sound s → ◌≡◌ {A = Result State Refusal} (Ok s) (Ok t) → IsLikeFrom s t
+same_like s t h e = let same : s ≡ t = cc in (subst Sound same h, ap money_in (sym same))
+
+-- the first n blocks keep a state sound, and its money
+replay_keeps : (s t : State) (bs : List Block) (n : ℕ) → AllInRange bs → AreApart (record { origin = s; blocks = bs }) → Sound s → replay s (take n bs) ≡ Ok t → IsLikeFrom s t
+replay_keeps s t bs zero ranged apart h e = same_like s t h e
+replay_keeps s t [] (suc n) ranged apart h e = same_like s t h e
+replay_keeps s t (b ∷ bs) (suc n) ranged apart h e =
+    let m = then_replayed (step s b) (take n bs) t e in
+    let sound = step_sound s m.0 b ranged.0 h (apart 1 m.0 (replay-then s m.0 b [] m.1)) m.1 in
+    let like = replay_keeps m.0 t bs n ranged.1 (λ k u r. apart (suc k) u (replay-then s m.0 b (take k bs) m.1 ∙ r)) sound m.2 in
+    (like.0, like.1 ∙ step_keeps s m.0 b ranged.0 h m.1)
+
+states_like : (s : States) → IsStates s → AreApart (held s) → (n : ℕ) (t : State) → replay (held s).origin (take n (held s).blocks) ≡ Ok t → IsLikeFrom (held s).origin t
+states_like s k apart n t e = replay_keeps (held s).origin t (held s).blocks n (held_ranged s k) apart k.sound e
+
+-- each state is sound
+pub states_sound : (s : States) → IsStates s → AreApart (held s) → (n : ℕ) (t : State) → replay (held s).origin (take n (held s).blocks) ≡ Ok t → Sound t
+states_sound s k apart n t e = (states_like s k apart n t e).0
 
 -- no block that is held makes or loses money
-pub states_money : (s : States) → IsStates s → KeepsMoney (held s)
-states_money s k = λ n t e. replay_keeps (held s).origin t (take n (held s).blocks) (first_numbered n (held s).blocks (held_numbered s k)) k.sound e
+pub states_money : (s : States) → IsStates s → AreApart (held s) → KeepsMoney (held s)
+states_money s k apart = λ n t e. (states_like s k apart n t e).1
 
--- ---- the round of a block that is spelled
+-- ---- a block that is spelled
 
-in_range : (b : Bool) (name : List ℕ) → unless_range b name ≡ None → b ≡ true
-in_range true name e = refl
-in_range false name e = absurd (let x : ◌≡◌ {A = Option Fault} (Some (Range name)) None = e in cc)
+-- its round is at most 2^62
+pub round_within : (bytes : List ℕ) (b : Block) → IsBlock bytes b → b.header.round ≤ 2 ^ 62
+round_within bytes b is = (is_within bytes b is).round
 
--- the fields behind the first n are in their ranges too
-later : (n : ℕ) (rs : List Rule) (es : List Entry) → range_fault rs es ≡ None → range_fault (drop n rs) es ≡ None
-later zero rs es h = h
-later (suc n) [] es h = h
-later (suc n) (r ∷ rs) es h = later n rs es (first_none (r.fault (value_at r.name es)) (range_fault rs es) h).1
-
-header_within : (h : Header) (es : List Entry) → IsRecord header h es → h.round ≤ 2 ^ 62
-header_within h es is =
-    let shown = record_shows header_fields h es refl is in
-    let ranged = (first_none _ (range_fault (rules_of header_fields) es) is.sound).1 in
-    let test = nat_le (number_of (value_at (codes "rnd") es)) (2 ^ 62) in
-    let ok = (first_none (unless_range test (codes "rnd")) (range_fault (drop 8 (rules_of header_fields)) es) (later 7 (rules_of header_fields) es ranged)).0 in
-    let few : number_of (value_at (codes "rnd") es) ≤ 2 ^ 62 = leb-true (number_of (value_at (codes "rnd") es)) (2 ^ 62) (in_range test (codes "rnd") ok) in
-    subst (λ n. n ≤ 2 ^ 62) (sym shown.1.1.1.1.1.1.1.0) few
-
-block_is : (input : List ℕ) (b : Block) → IsBlock input b → IsRecord block b (block.write b)
-block_is input b is = record {
-  fields = refl;
-  sound = ap (member_open block.fault) (sym (views.outs-Map (block.write b))) ∙ (first_none _ _ is.sound).0;
-}
-
--- a header of a block is a record itself
-header_of : (b : Block) (es : List Entry) → IsRecord block b es → IsRecord header b.header (header.write b.header)
-header_of b es is = record {
-  fields = refl;
-  sound = ap header.fault (record_shows block_fields b es refl is).0 ∙ (first_none (header.fault (map_of (value_at (codes "b") es))) (range_fault (drop 1 (rules_of block_fields)) es) (first_none _ (range_fault (rules_of block_fields) es) is.sound).1).0;
-}
-
--- it is at most 2^62
-pub round_within : (input : List ℕ) (b : Block) → IsBlock input b → b.header.round ≤ 2 ^ 62
-round_within input b is = header_within b.header (header.write b.header) (header_of b (block.write b) (block_is input b is))
+-- what it creates has numbers of 64 bits, where it has fewer than 2^31 bytes
+pub created_within : (bytes : List ℕ) (b : Block) (counter : ℕ) → IsBlock bytes b → length bytes < 2 ^ 31 → counter ≤ 2 ^ 62 → counter + sum_by size_of b.items < 2 ^ 64
+created_within bytes b counter is short few =
+    let most : sum_by size_of b.items ≤ length bytes = (is_within bytes b is).transactions in
+    omega (arith, short, few, most)

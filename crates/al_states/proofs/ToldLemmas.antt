@@ -40,10 +40,9 @@ use Rattle.al_states.specs.declared.accepting.Accepted.{Accepted}
 use Rattle.al_states.specs.declared.accepting.AcceptRefusal.{AcceptRefusal}
 use Rattle.al_states.specs.declared.accepting.AcceptRefusal.TheVariants as refusals
 use Rattle.al_states.specs.Accepting.{Accepts, IsBroken, IsNext, IsRefused, accept_answer, eval_answer, outer_fault, outer_refusal, refusal_answer}
-use Rattle.al_states.specs.Built.{is_built}
 use Rattle.al_states.specs.Held.{Held}
 use Rattle.al_states.specs.Looking.{Looks, look_answer, row_answer}
-use Rattle.al_states.specs.Replies.{account_answer, account_of, looked, too_new, wrong_round, Replies, Posts, IsRepeated, IsAnswered, judged, refused, taken, fork, wrong_prev, not_built}
+use Rattle.al_states.specs.Replies.{account_answer, account_of, looked, too_new, wrong_round, Replies, Posts, IsRepeated, IsAnswered, judged, refused, taken, fork, wrong_prev}
 
 when_false : {A : Type 0} (b : Bool) (x y : A) → b ≡ false → (if b then x else y) ≡ y
 when_false true x y e = absurd cc
@@ -112,25 +111,22 @@ answered_same h ask body a t is reply =
 judged_prev : (front : ℕ) (s : State) (b : Block) → same_bytes b.header.prev (header_hash_of s.header) ≡ false → judged front s b ≡ Some (wrong_prev front (header_hash_of s.header))
 judged_prev front s b e = when_false (same_bytes b.header.prev (header_hash_of s.header)) _ _ e
 
-judged_odd : (front : ℕ) (s : State) (b : Block) → same_bytes b.header.prev (header_hash_of s.header) ≡ true → is_built b ≡ false → judged front s b ≡ Some not_built
-judged_odd front s b e f = when_true (same_bytes b.header.prev (header_hash_of s.header)) _ _ e ∙ when_false (is_built b) _ _ f
-
-judged_step : (front : ℕ) (s : State) (b : Block) → same_bytes b.header.prev (header_hash_of s.header) ≡ true → is_built b ≡ true → judged front s b ≡ refused front (step s b)
-judged_step front s b e f = when_true (same_bytes b.header.prev (header_hash_of s.header)) _ _ e ∙ when_true (is_built b) _ _ f
+judged_step : (front : ℕ) (s : State) (b : Block) → same_bytes b.header.prev (header_hash_of s.header) ≡ true → judged front s b ≡ refused front (step s b)
+judged_step front s b e = when_true (same_bytes b.header.prev (header_hash_of s.header)) _ _ e
 
 -- the answer to a block of the next round
 next_posts : (o s : State) (blocks : List Block) (body : List ℕ) (b : Block) (continues : Bool) (a : Answer) → IsBlock body b → IsNext o blocks b continues s → judged (length blocks) s b ≡ Some a → Posts o blocks body a ⊎ (a ≡ memory_answer)
 next_posts o s blocks body b continues a is next due = inl (inr (b, is, inr (inr (next.round, (s, next.replayed, due)))))
 
 -- the refusal by the step
-eval_posts : (o s : State) (blocks : List Block) (body : List ℕ) (b : Block) (e : EvalRefusal Never) → IsBlock body b → IsNext o blocks b true s → is_built b ≡ true → IsBroken s b (refusal_of e)
+eval_posts : (o s : State) (blocks : List Block) (body : List ℕ) (b : Block) (e : EvalRefusal Never) → IsBlock body b → IsNext o blocks b true s → IsBroken s b (refusal_of e)
     → Posts o blocks body (eval_answer (length blocks) e) ⊎ (eval_answer (length blocks) e ≡ memory_answer)
-eval_posts o s blocks body b (evals.Broken place rule) is next built due = next_posts o s blocks body b true _ is next (judged_step (length blocks) s b next.prev built ∙ ap (refused (length blocks)) due.0)
-eval_posts o s blocks body b (evals.Header field) is next built due = next_posts o s blocks body b true _ is next (judged_step (length blocks) s b next.prev built ∙ ap (refused (length blocks)) due.0)
-eval_posts o s blocks body b (evals.PoolShort pool owed) is next built due = next_posts o s blocks body b true _ is next (judged_step (length blocks) s b next.prev built ∙ ap (refused (length blocks)) due.0)
-eval_posts o s blocks body b (evals.Expired place) is next built due = next_posts o s blocks body b true _ is next (judged_step (length blocks) s b next.prev built ∙ ap (refused (length blocks)) due.0)
-eval_posts o s blocks body b (evals.View never) is next built due = inr refl
-eval_posts o s blocks body b evals.Memory is next built due = absurd due
+eval_posts o s blocks body b (evals.Broken place rule) is next due = next_posts o s blocks body b true _ is next (judged_step (length blocks) s b next.prev ∙ ap (refused (length blocks)) due.0)
+eval_posts o s blocks body b (evals.Header field) is next due = next_posts o s blocks body b true _ is next (judged_step (length blocks) s b next.prev ∙ ap (refused (length blocks)) due.0)
+eval_posts o s blocks body b (evals.PoolShort pool owed) is next due = next_posts o s blocks body b true _ is next (judged_step (length blocks) s b next.prev ∙ ap (refused (length blocks)) due.0)
+eval_posts o s blocks body b (evals.Expired place) is next due = next_posts o s blocks body b true _ is next (judged_step (length blocks) s b next.prev ∙ ap (refused (length blocks)) due.0)
+eval_posts o s blocks body b (evals.View never) is next due = inr refl
+eval_posts o s blocks body b evals.Memory is next due = absurd due
 
 outside : (blocks : List Block) (next front : ℕ) → next ≡ suc (length blocks) → front ≡ length blocks → answers.Refused 409 errors.WrongRound (record nothing { front = Some front; next = Some next }) ≡ wrong_round (length blocks)
 outside blocks next front n f = ap₂ (λ x y. answers.Refused 409 errors.WrongRound (record nothing { front = Some x; next = Some y })) f n
@@ -142,9 +138,8 @@ refused_posts o blocks body (refusals.WrongRound next front) (b, is, (out, n, f)
 refused_posts o blocks body (refusals.Fork hash front) (b, is, ((kept, here, other, hashed), f)) = inl (inr (b, is, inr (inl (kept, here, inr (other, ap₂ fork f hashed)))))
 refused_posts o blocks body (refusals.WrongPrev hash front) (b, is, (s, next, hashed, f)) =
     next_posts o s blocks body b false (wrong_prev front hash) is next (judged_prev (length blocks) s b next.prev ∙ ap Some (sym (ap₂ wrong_prev f hashed)))
-refused_posts o blocks body (refusals.Eval e front) (b, is, (s, next, built, due, f)) =
-    subst (λ n. Posts o blocks body (eval_answer n e) ⊎ (eval_answer n e ≡ memory_answer)) (sym f) (eval_posts o s blocks body b e is next built due)
-refused_posts o blocks body refusals.NotBuilt (b, is, (s, next, odd)) = next_posts o s blocks body b true not_built is next (judged_odd (length blocks) s b next.prev odd)
+refused_posts o blocks body (refusals.Eval e front) (b, is, (s, next, due, f)) =
+    subst (λ n. Posts o blocks body (eval_answer n e) ⊎ (eval_answer n e ≡ memory_answer)) (sym f) (eval_posts o s blocks body b e is next due)
 refused_posts o blocks body refusals.Memory h = inr refl
 
 -- a block that is taken
@@ -206,10 +201,10 @@ fault_refused o blocks body (faults.Range name) x = x
 fault_refused o blocks body faults.Memory x = tt
 
 -- a block that the step refuses
-pub step_refused : (o s : State) (blocks : List Block) (body : List ℕ) (b : Block) (front : ℕ) (e : EvalRefusal Never) → IsBlock body b → IsNext o blocks b true s → is_built b ≡ true → IsStepRefusal s b (refusal_of e) → front ≡ length blocks → IsRefused o blocks body (outer_refusal front e)
-step_refused o s blocks body b front (evals.Broken place rule) is next built due f = (b, is, (s, next, built, due, f))
-step_refused o s blocks body b front (evals.Header field) is next built due f = (b, is, (s, next, built, due, f))
-step_refused o s blocks body b front (evals.PoolShort pool owed) is next built due f = (b, is, (s, next, built, due, f))
-step_refused o s blocks body b front (evals.Expired place) is next built due f = (b, is, (s, next, built, due, f))
-step_refused o s blocks body b front (evals.View never) is next built due f = (b, is, (s, next, built, due, f))
-step_refused o s blocks body b front evals.Memory is next built due f = tt
+pub step_refused : (o s : State) (blocks : List Block) (body : List ℕ) (b : Block) (front : ℕ) (e : EvalRefusal Never) → IsBlock body b → IsNext o blocks b true s → IsStepRefusal s b (refusal_of e) → front ≡ length blocks → IsRefused o blocks body (outer_refusal front e)
+step_refused o s blocks body b front (evals.Broken place rule) is next due f = (b, is, (s, next, due, f))
+step_refused o s blocks body b front (evals.Header field) is next due f = (b, is, (s, next, due, f))
+step_refused o s blocks body b front (evals.PoolShort pool owed) is next due f = (b, is, (s, next, due, f))
+step_refused o s blocks body b front (evals.Expired place) is next due f = (b, is, (s, next, due, f))
+step_refused o s blocks body b front (evals.View never) is next due f = (b, is, (s, next, due, f))
+step_refused o s blocks body b front evals.Memory is next due f = tt

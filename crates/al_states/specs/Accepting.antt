@@ -23,11 +23,10 @@ use Rattle.al_http.specs.Answers.{nothing, memory_answer}
 use Rattle.al_states.specs.declared.accepting.Accepted.{Accepted}
 use Rattle.al_states.specs.declared.accepting.AcceptRefusal.{AcceptRefusal}
 use Rattle.al_states.specs.declared.accepting.AcceptRefusal.TheVariants as refusals
-use Rattle.al_states.specs.Built.{is_built}
 use Rattle.al_states.specs.Held.{Held}
-use Rattle.al_states.specs.Replies.{IsBlockOf, broken_at, fork, not_built, not_expired, short, taken, undecodable, wrong_header, wrong_prev}
+use Rattle.al_states.specs.Replies.{IsBlockOf, broken_at, fork, not_expired, short, taken, undecodable, wrong_header, wrong_prev}
 
--- the block is the next one, over this state after the blocks; whether it continues the last one, and is built
+-- the block is the next one, over this state after the blocks; whether it continues the last one
 pub record IsNext (o : State) (blocks : List Block) (b : Block) (continues : Bool) (s : State) : Type 0 where
   pub round : b.header.round ≡ suc (length blocks)
   pub replayed : replay o blocks ≡ Ok s
@@ -37,9 +36,9 @@ pub record IsNext (o : State) (blocks : List Block) (b : Block) (continues : Boo
 abbrev pub IsFork : List Block → List ℕ → ℕ → List ℕ → Type 0
 IsFork blocks body round hash = (kept : Block) × IsBlockOf blocks round kept × (IsBlock body kept → ⊥) × (hash ≡ header_hash_of kept.header)
 
--- the step refuses the block, by what a sound state can come to; its view never fails
+-- the step refuses the block, by what a consistent state can come to; its view never fails
 abbrev pub IsBroken : State → Block → Verdict → Type 0
-IsBroken s b (refused r) = (step s b ≡ Err r) × MayCome r
+IsBroken s b (refused r) = (step s b ≡ Err r) × MayCome s r
 IsBroken s b failed = ⊤
 IsBroken s b no_memory = ⊥
 
@@ -48,8 +47,7 @@ abbrev pub Refuses : State → List Block → List ℕ → Block → AcceptRefus
 Refuses o blocks body b (refusals.WrongRound next front) = ((b.header.round ≡ 0) ⊎ (suc (length blocks) < b.header.round)) × (next ≡ suc (length blocks)) × (front ≡ length blocks)
 Refuses o blocks body b (refusals.Fork hash front) = IsFork blocks body b.header.round hash × (front ≡ length blocks)
 Refuses o blocks body b (refusals.WrongPrev hash front) = (s : State) × IsNext o blocks b false s × (hash ≡ header_hash_of s.header) × (front ≡ length blocks)
-Refuses o blocks body b (refusals.Eval e front) = (s : State) × IsNext o blocks b true s × (is_built b ≡ true) × IsBroken s b (refusal_of e) × (front ≡ length blocks)
-Refuses o blocks body b refusals.NotBuilt = (s : State) × IsNext o blocks b true s × (is_built b ≡ false)
+Refuses o blocks body b (refusals.Eval e front) = (s : State) × IsNext o blocks b true s × IsBroken s b (refusal_of e) × (front ≡ length blocks)
 Refuses o blocks body b r = ⊥
 
 -- why bytes are refused: they spell no block, or one that is refused; want of memory is free
@@ -100,7 +98,6 @@ refusal_answer (refusals.WrongRound next front) = answers.Refused 409 errors.Wro
 refusal_answer (refusals.Fork hash front) = fork front hash
 refusal_answer (refusals.WrongPrev hash front) = wrong_prev front hash
 refusal_answer (refusals.Eval e front) = eval_answer front e
-refusal_answer refusals.NotBuilt = not_built
 refusal_answer refusals.Memory = memory_answer
 
 abbrev pub accept_answer : Result Accepted AcceptRefusal → Answer

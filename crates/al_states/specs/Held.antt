@@ -3,6 +3,7 @@ use Rattle.std.specs.Prelude.{◌≡◌, ℕ, List, take, Ok}
 use Rattle.al_block.specs.declared.block.Block.{Block}
 use Rattle.al_moves.specs.Money.{money}
 use Rattle.al_rows.specs.Rows.{bare}
+use Rattle.al_eval.specs.Sound.{Apart}
 use Rattle.al_eval.specs.State.{State, replay}
 
 -- the state at the origin, and the blocks since
@@ -13,6 +14,10 @@ pub record Held : Type 0 where
 -- no block is refused
 abbrev pub IsValid : State → List Block → Type 0
 IsValid o blocks = (s : State) × (replay o blocks ≡ Ok s)
+
+-- each state that the blocks lead through is apart
+abbrev pub AreApart : Held → Type 0
+AreApart h = (n : ℕ) (s : State) → replay h.origin (take n h.blocks) ≡ Ok s → Apart s
 
 -- the money of all accounts, in microAlgos
 abbrev pub money_in : State → ℕ

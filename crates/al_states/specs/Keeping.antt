@@ -1,5 +1,5 @@
 -- What the states of a ledger keep: the rows at the origin, what each block changes, and the newest rows.
-use Rattle.std.specs.Prelude.{◌≡◌, ℕ, List, [], ◌∷◌, length, map, All}
+use Rattle.std.specs.Prelude.{◌≡◌, ◌≤◌, ◌^◌, ℕ, List, [], ◌∷◌, length, map, All}
 use Rattle.std.specs.FinMap.{get}
 use Rattle.std.specs.declared.result.Result.{Result}
 use Rattle.std.specs.declared.result.Result.TheVariants.{Ok, Err}
@@ -23,11 +23,11 @@ use Rattle.al_eval.specs.Answers.{IsDeltaOf}
 use Rattle.al_eval.specs.Snaps.{snap_of}
 use Rattle.al_eval.specs.Start.{first_state}
 use Rattle.al_eval.specs.State.{State, counts_in, last_snap, step, replay}
-use Rattle.al_eval.specs.Sound.{AreNumbered, IsStepRefusal, Sound}
+use Rattle.al_eval.specs.Sound.{AreInRange, IsStepRefusal, Sound}
 use Rattle.al_eval.specs.Refusals.{refusal_of}
 use Rattle.al_eval.specs.declared.before.EvalRefusal.{EvalRefusal}
-use Rattle.al_eval.specs.Past.{entry_of}
-use Rattle.al_eval.specs.declared.tail.Entry.{Entry}
+use Rattle.al_tail.specs.Past.{entry_of}
+use Rattle.al_tail.specs.declared.tail.Entry.{Entry}
 use Rattle.al_eval.specs.declared.run.Evaluated.{Evaluated}
 use Rattle.al_states.specs.declared.keeping.KeptBlock.{KeptBlock}
 use Rattle.al_states.specs.declared.states.States.{States}
@@ -69,12 +69,13 @@ pub record IsKeeping (chain : Chain) (first : Header) (base newest : StoredMap) 
   pub changes : All IsKeptDelta deltas.deltas
   pub newest_is : caught_up (last_of deltas.deltas) newest ≡ rows_after deltas.deltas base
   pub hash_is : hash ≡ header_hash_of header
+  pub few : header.counter ≤ 2 ^ 62
   pub tail_is : tail ≡ map entry_of past
   pub sound : Sound (origin_of chain first base)
   pub totals_are : totals ≡ counts header.level (bare (rows_after deltas.deltas base))
   pub online : Remembers memory snaps (length (blocks_of kept)) (snap_of header.level (bare (rows_after deltas.deltas base)))
   pub spelled : All (λ k. IsBlock k.bytes.items k.block) kept
-  pub numbered : All (λ k. AreNumbered k.block) kept
+  pub ranged : All (λ k. AreInRange k.block) kept
 
 -- what the states of a ledger hold
 abbrev pub held : States → Held
@@ -99,7 +100,7 @@ pub record IsEvaluated (s : State) (b : Block) (e : Evaluated) : Type 0 where
   pub is_of : IsDeltaOf b.header e.delta
   pub kept : IsKeptDelta e.delta
   pub entries : e.entries.items ≡ map (λ i. entry_of i.txn) b.items
-  pub numbered : AreNumbered b
+  pub ranged : AreInRange b
 
 -- what a step over a state gives, or why the block is refused
 abbrev pub EvaluatesTo : {F : Type 0} → State → Block → Result Evaluated (EvalRefusal F) → Type 0

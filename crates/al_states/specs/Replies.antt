@@ -22,10 +22,9 @@ use Rattle.al_http.specs.declared.asking.Request.TheVariants as asks
 use Rattle.al_http.specs.declared.answer.Answer.{Answer}
 use Rattle.al_http.specs.declared.answer.Answer.TheVariants as answers
 use Rattle.al_http.specs.declared.answer.ErrorName.TheVariants as errors
-use Rattle.al_http.specs.Answers.{nothing, memory_answer, not_built_answer}
+use Rattle.al_http.specs.Answers.{nothing, memory_answer}
 use Rattle.al_states.specs.declared.told.Told.{Told}
 use Rattle.al_states.specs.Held.{Held}
-use Rattle.al_states.specs.Built.{is_built}
 
 -- ---- look-ups
 
@@ -108,10 +107,6 @@ abbrev pub broken_at : ℕ → ℕ → Rule → Answer
 broken_at front place rule =
     answers.Refused 422 errors.Broken (record nothing { front = Some front; place = Some place; rule = Some rule.number; has = rule.has; needs = rule.needs; until = rule.until; id = rule.id; who = if nat_eq rule.number 42 then None else rule.who })
 
--- 501: it is not built yet
-abbrev pub not_built : Answer
-not_built = not_built_answer
-
 -- the refusal by the step, or none where it takes the block
 abbrev pub refused : ℕ → Result State Refusal → Option Answer
 refused front (Ok s) = None
@@ -120,13 +115,9 @@ refused front (Err (header field)) = Some (wrong_header front field)
 refused front (Err (pool_short pool owed)) = Some (short front)
 refused front (Err (expired place)) = Some (not_expired front place)
 
--- the refusal by the step of a block that is built
-abbrev pub stepped : ℕ → State → Block → Option Answer
-stepped front s b = if is_built b then refused front (step s b) else Some not_built
-
 -- the refusal of a block of the next round, or none where it is taken
 abbrev pub judged : ℕ → State → Block → Option Answer
-judged front s b = if same_bytes b.header.prev (header_hash_of s.header) then stepped front s b else Some (wrong_prev front (header_hash_of s.header))
+judged front s b = if same_bytes b.header.prev (header_hash_of s.header) then refused front (step s b) else Some (wrong_prev front (header_hash_of s.header))
 
 -- the blocks have this one at a round; the first is of round 1
 abbrev pub IsBlockOf : List Block → ℕ → Block → Type 0

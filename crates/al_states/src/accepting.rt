@@ -42,8 +42,6 @@ pub enum AcceptRefusal {
         refusal: EvalRefusal<Never>,
         front: u64,
     },
-    /// It is not built yet.
-    NotBuilt,
     /// There is no memory.
     Memory,
 }

@@ -1,9 +1,11 @@
 //! What is kept of the blocks.
-ghost use Rattle.std.specs.Prelude.{◌≡◌, ◌≤◌, ◌^◌, List, [], suc, All, ◌∷◌, ◌++◌, map, OnOk, OnErr};
+ghost use Rattle.std.specs.Prelude.{◌≡◌, ◌≤◌, ◌<◌, ◌+◌, ◌^◌, List, [], suc, All, ◌∷◌, ◌++◌, map, sum_by, OnOk, OnErr};
+ghost use Rattle.al_bodies.specs.Ranges.{EffectInRange};
 ghost use Rattle.al_deltas.specs.Queue.{IsKeptDelta, last_of, top};
 ghost use Rattle.al_online.specs.Memory.{IsEachOnce, and_round, top as last_round};
-ghost use Rattle.al_eval.specs.Past.{entry_of};
-ghost use Rattle.al_eval.specs.Sound.{Sound};
+ghost use Rattle.al_tail.specs.Past.{entry_of};
+ghost use Rattle.al_eval.specs.Groups.{size_of};
+ghost use Rattle.al_eval.specs.Sound.{Consistent};
 ghost use Rattle.al_eval.specs.State.{State, before_of};
 ghost use Rattle.al_states.specs.Keeping.{EvaluatesTo, caught_up};
 
@@ -21,9 +23,19 @@ pub struct KeptBlock {
     pub(crate) bytes: Vec<u8>,
 }
 
-// Puts what the last block changes over the newest rows, once more where it was put before. After
-// a refusal it may be called again.
+// Puts what the last block changes over the newest rows, once more where it was put before, and
+// makes their index of creators where they have none. After a refusal it may be called again.
 pub(crate) fn catch_up(newest: &mut KeptRows, deltas: &Deltas) -> Result<(), AllocError>
+    requires { All IsKeptDelta deltas.now.deltas }
+    ensures ok { OnOk result (newest.new ≡ caught_up (last_of deltas.now.deltas) newest.old) }
+    ensures again { caught_up (last_of deltas.now.deltas) newest.new ≡ caught_up (last_of deltas.now.deltas) newest.old }
+{
+    put_last(newest, deltas)?;
+    newest.index()
+}
+
+// Puts what the last block changes over the newest rows.
+fn put_last(newest: &mut KeptRows, deltas: &Deltas) -> Result<(), AllocError>
     requires { All IsKeptDelta deltas.now.deltas }
     ensures ok { OnOk result (newest.new ≡ caught_up (last_of deltas.now.deltas) newest.old) }
     ensures again { caught_up (last_of deltas.now.deltas) newest.new ≡ caught_up (last_of deltas.now.deltas) newest.old }
@@ -42,8 +54,10 @@ pub(crate) fn evaluate(
     tail: &Tail,
     block: &Block,
 ) -> Result<Evaluated, EvalRefusal<Never>>
-    requires { block.now.header.round ≤ 2 ^ 62 }
-    ensures { (s : State) → before.now ≡ before_of s → tail.now ≡ map entry_of s.past → newest.now ≡ s.rows → Sound s → EvaluatesTo s block.now result }
+    requires round { block.now.header.round ≤ 2 ^ 62 }
+    requires effects { All (λ i. All EffectInRange i.effects) block.now.items }
+    requires counted { before.now.header.counter + sum_by size_of block.now.items < 2 ^ 64 }
+    ensures { (s : State) → before.now ≡ before_of s → tail.now ≡ map entry_of s.past → newest.now ≡ s.rows → Consistent s → EvaluatesTo s block.now result }
 {
     let mut view = newest.view();
     eval_with_entries(alloc, &mut view, before, tail, block)

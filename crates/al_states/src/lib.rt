@@ -2,7 +2,6 @@
 #![tactic(auto)]
 
 mod accepting;
-mod built;
 mod keeping;
 mod looking;
 mod opening;

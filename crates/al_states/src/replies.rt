@@ -86,7 +86,6 @@ fn refusal_answer(refusal: AcceptRefusal) -> Answer
             Answer::refused(ErrorName::WrongPrev, More::kept(front, kept))
         }
         AcceptRefusal::Eval { refusal, front } => eval_answer(front, refusal),
-        AcceptRefusal::NotBuilt => Answer::not_built(),
         AcceptRefusal::Memory => Answer::memory(),
     }
 }

@@ -1,15 +1,14 @@
 //! The states of the ledger, one after each block.
-ghost use Rattle.std.specs.Prelude.{◌≡◌, ◌≤◌, ◌<◌, ◌^◌, suc, true, [], ◌∷◌, ◌++◌, length, All, option_map, IfOk, IfSome, OnOk, OnErr};
+ghost use Rattle.std.specs.Prelude.{◌≡◌, ◌≤◌, ◌<◌, ◌^◌, ℕ, suc, [], ◌∷◌, ◌++◌, length, take, All, Ok, option_map, IfOk, IfSome, OnOk, OnErr};
 ghost use Rattle.std.specs.Option.{option_copied};
 ghost use Rattle.al_block.specs.Block.{IsBlock};
 ghost use Rattle.al_eval.specs.Sound.{Sound};
 ghost use Rattle.al_online.specs.Memory.{IsEachOnce};
 ghost use Rattle.al_eval.specs.Start.{start, start_online, start_rows, start_totals};
-ghost use Rattle.al_eval.specs.State.{counts_in, row_at};
+ghost use Rattle.al_eval.specs.State.{State, counts_in, replay, row_at};
 ghost use Rattle.al_http.specs.Answers.{IsSound};
-ghost use Rattle.al_states.specs.Accepting.{Accepts, IsNext};
-ghost use Rattle.al_states.specs.Built.{is_built};
-ghost use Rattle.al_states.specs.Held.{IsValid};
+ghost use Rattle.al_states.specs.Accepting.{Accepts};
+ghost use Rattle.al_states.specs.Held.{AreApart, IsValid};
 ghost use Rattle.al_states.specs.Keeping.{IsNewest, IsStates, Leads, held};
 ghost use Rattle.al_states.specs.Looking.{Looks};
 ghost use Rattle.al_states.specs.Opening.{Opens};
@@ -18,7 +17,6 @@ ghost use Rattle.al_rewards.specs.Totals.{AreTotals};
 ghost use Rattle.al_rows.specs.Rows.{AccountInRange, IsKept};
 
 use crate::accepting::{undecodable, unfit};
-use crate::built::is_built;
 use crate::keeping::{KeptBlock, catch_up, evaluate, keep};
 use crate::opening::fault_of;
 use crate::replies::{accept_answer, look_answer};
@@ -78,6 +76,7 @@ impl States {
     fn begin(alloc: Global, genesis: Genesis) -> Result<States, AllocError>
         requires ranged { All (λ a. AccountInRange a.row) genesis.accounts }
         requires sound { Sound (start genesis) }
+        requires few { genesis.header.counter ≤ 2 ^ 62 }
         requires once { IsEachOnce (start_online genesis.accounts) }
         requires totals { (start_totals genesis.accounts ≡ counts_in (start genesis)) × AreTotals (start_totals genesis.accounts) }
         ensures states { IfOk result (λ s. IsStates s) }
@@ -108,12 +107,15 @@ impl States {
         })
     }
 
-    /// How many blocks are held, each of which was accepted.
+    /// How many blocks are held, each of which was accepted. Where no state of the chain has an
+    /// application whose account is the sink or the pool, each is sound: no block is refused over it
+    /// because the pool could not pay.
     pub fn front(&self) -> u64
         requires { IsStates self.now }
         ensures front { result ≡ length (held self.now).blocks }
         ensures bound { result < 2 ^ 63 }
         ensures valid { IsValid (held self.now).origin (held self.now).blocks }
+        ensures sound { AreApart (held self.now) → (n : ℕ) (s : State) → replay (held self.now).origin (take n (held self.now).blocks) ≡ Ok s → Sound s }
     {
         self.kept.len() as u64
     }
@@ -213,6 +215,7 @@ impl States {
     fn place(&mut self, bytes: &[u8], block: Block) -> Result<Accepted, AcceptRefusal>
         requires states { IsStates self.old }
         requires spelled { IsBlock bytes.now block }
+        requires short { length bytes.now < 2 ^ 31 }
         ensures states { IsStates self.new }
         ensures accepts { Accepts (held self.old) (held self.new) bytes.now result }
     {
@@ -253,6 +256,7 @@ impl States {
     fn follow(&mut self, bytes: &[u8], block: Block) -> Result<Accepted, AcceptRefusal>
         requires states { IsStates self.old }
         requires spelled { IsBlock bytes.now block }
+        requires short { length bytes.now < 2 ^ 31 }
         requires next { block.header.round ≡ suc (length (held self.old).blocks) }
         ensures states { IsStates self.new }
         ensures accepts { Accepts (held self.old) (held self.new) bytes.now result }
@@ -262,9 +266,6 @@ impl States {
                 kept: self.before.hash,
                 front: self.front(),
             });
-        }
-        if !is_built(&block) {
-            return Err(AcceptRefusal::NotBuilt);
         }
         match catch_up(&mut self.newest, &self.deltas) {
             Ok(()) => self.judge(bytes, block),
@@ -277,9 +278,9 @@ impl States {
         requires states { IsStates self.old }
         requires newest { IsNewest self.old }
         requires spelled { IsBlock bytes.now block }
+        requires short { length bytes.now < 2 ^ 31 }
         requires next { block.header.round ≡ suc (length (held self.old).blocks) }
         requires continues { block.header.prev ≡ self.old.before.hash }
-        requires built { is_built block ≡ true }
         ensures states { IsStates self.new }
         ensures accepts { Accepts (held self.old) (held self.new) bytes.now result }
     {

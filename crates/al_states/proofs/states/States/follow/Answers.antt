@@ -1,4 +1,4 @@
-use Rattle.std.proofs.Common.{◌∙◌, refl, sym, true, false}
+use Rattle.std.proofs.Common.{refl, true, false}
 use Rattle.al_rows.specs.Rows.{same_bytes}
 use Rattle.al_states.proofs.KeepLemmas.{kept_newest, last_state}
 use Rattle.al_states.proofs.ToldLemmas.{flipped, next_is}
@@ -10,13 +10,6 @@ returns-then-ne-clause-accepts c =
     let k = c.requires.states in
     let b = c.args.block in
     (refl, (b, c.requires.spelled, (last_state s k, next_is s k b false c.requires.next (flipped (same_bytes b.header.prev s.before.hash) true c.if-ne.ensures), k.hash_is, c.front.ensures.front)))
-
-pub returns-then-not-is_built-clause-accepts : goal.returns-then-not-is_built-clause-accepts
-returns-then-not-is_built-clause-accepts c =
-    let s = c.args.self.now in
-    let k = c.requires.states in
-    let b = c.args.block in
-    (refl, (b, c.requires.spelled, (last_state s k, next_is s k b true c.requires.next (flipped (same_bytes b.header.prev s.before.hash) false c.if-ne.ensures), sym c.is_built.ensures ∙ c.if-not-is_built.true)))
 
 pub judge-requires-clause-states : goal.judge-requires-clause-states
 judge-requires-clause-states c =

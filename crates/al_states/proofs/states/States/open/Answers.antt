@@ -7,7 +7,7 @@ use Rattle.al_eval.proofs.Onlines.{start_rises}
 use Rattle.al_eval.proofs.Starts.{genesis_ranged}
 use Rattle.al_eval.specs.Start.{start_online}
 use Rattle.al_online.proofs.Once.{once_where_rising}
-use Rattle.al_states.proofs.OpenLemmas.{fault_opens}
+use Rattle.al_states.proofs.OpenLemmas.{begun_few, fault_opens}
 use Rattle.al_states.proofs.states.States.open.Goals as goal
 
 pub begin-requires-clause-ranged : goal.begin-requires-clause-ranged
@@ -15,6 +15,9 @@ begin-requires-clause-ranged c = genesis_ranged c.args.file.now c.in-Ok.genesis 
 
 pub begin-requires-clause-sound : goal.begin-requires-clause-sound
 begin-requires-clause-sound c = start_is_sound c.args.file.now c.in-Ok.genesis c.in-Ok.ensures.right
+
+pub begin-requires-clause-few : goal.begin-requires-clause-few
+begin-requires-clause-few c = begun_few c.args.file.now c.in-Ok.genesis c.in-Ok.ensures.right
 
 pub begin-requires-clause-once : goal.begin-requires-clause-once
 begin-requires-clause-once c = once_where_rising (start_online c.in-Ok.genesis.accounts) (start_rises c.args.file.now c.in-Ok.genesis c.in-Ok.ensures.right)
