@@ -12,7 +12,7 @@ const MOST: usize = 1_000_000;
 
 /// The stored connections: each has a file with its genesis, one with its requests and one with
 /// the answers.
-const CONNECTIONS: [&str; 16] = [
+const CONNECTIONS: [&str; 23] = [
     "frozen",
     "destroyed",
     "closed_to_frozen_creator",
@@ -29,6 +29,13 @@ const CONNECTIONS: [&str; 16] = [
     "keys_1",
     "keys_2",
     "keys_3",
+    "box_unpaid",
+    "box_put_and_removed",
+    "inner_payment",
+    "closed_to_created",
+    "effects_1",
+    "effects_2",
+    "effects_3",
 ];
 
 /// A source that comes in pieces.
