@@ -1,7 +1,7 @@
 use crate::world::Act::{Claw, Close, Create, Destroy, Freeze, Manage, Send, Thaw};
 use crate::world::Has::{Free, Frozen, No};
-use crate::world::{Act, Has, USERS, World, begin, count, holding, item, next};
-use al_base::{Address, CreatorChange};
+use crate::world::{Act, Has, USERS, World, begin, count, creator, holding, index, item, next};
+use al_base::{Address, CreatorChange, CreatorChanges};
 use al_moves::Rule;
 use al_txn::Items;
 use std::alloc::{AllocError, Global};
@@ -160,33 +160,81 @@ const CREATORS: [(&[Sent], &[(u64, u8)]); 6] = [
     ),
 ];
 
+// The account that a byte names, 0 naming none.
+fn named(byte: u8) -> Option<Address> {
+    match byte {
+        0 => None,
+        _ => Some(Address([byte; 32])),
+    }
+}
+
 // Whether these creators differ.
 fn are_creators(changes: &[CreatorChange], wanted: &[(u64, u8)]) -> bool {
     if changes.len() != wanted.len() {
         return false;
     }
     for (change, (id, who)) in changes.iter().zip(wanted) {
-        let now = match who {
-            0 => None,
-            _ => Some(Address([*who; 32])),
-        };
-        if change.id != *id || change.now != now {
+        if change.id != *id || change.now != named(*who) {
             return false;
         }
     }
     true
 }
 
+// What the next block of these transactions does to creators.
+fn follow(alloc: Global, world: &mut World, all: &[Sent]) -> Result<CreatorChanges, Fail> {
+    let items = items_of(alloc, world, all)?;
+    Ok(next(alloc, world, items)?.ok().ok_or("a block")?)
+}
+
 #[test]
 fn creators(rt: HostRuntime) -> Result<(), Fail> {
     let mut world = begin(rt.alloc())?;
     for (place, (all, wanted)) in CREATORS.iter().enumerate() {
-        let items = items_of(rt.alloc(), &world, all)?;
-        let changes = next(rt.alloc(), &mut world, items)?.ok().ok_or("a block")?;
+        let changes = follow(rt.alloc(), &mut world, all)?;
         assert!(rt;
             are_creators(changes.as_slice(), wanted),
             "of block {place}"
         );
     }
+    Ok(())
+}
+
+// Whether two chains show the same creators of the assets 1 to 11.
+fn agree(world: &World, other: &World) -> bool {
+    for asset in 1..12 {
+        if creator(world, asset) != creator(other, asset) {
+            return false;
+        }
+    }
+    true
+}
+
+// Whether these are creators now.
+fn show(world: &World, wanted: &[(u64, u8)]) -> bool {
+    for (asset, who) in wanted {
+        if creator(world, *asset) != named(*who) {
+            return false;
+        }
+    }
+    true
+}
+
+// The rows of a chain that has an index from the start show the creators that those without one
+// show. So do these rows with an index that is made at the end.
+#[test]
+fn indexed_creators(rt: HostRuntime) -> Result<(), Fail> {
+    let mut world = begin(rt.alloc())?;
+    let mut plain = begin(rt.alloc())?;
+    index(&mut world)?;
+    for (place, (all, wanted)) in CREATORS.iter().enumerate() {
+        follow(rt.alloc(), &mut world, all)?;
+        follow(rt.alloc(), &mut plain, all)?;
+        assert!(rt; agree(&world, &plain), "after block {place}");
+        assert!(rt; show(&world, wanted), "of block {place}");
+    }
+    index(&mut plain)?;
+    assert!(rt; agree(&world, &plain));
+    assert!(rt; show(&plain, &[(1, 0), (6, 0), (8, 0), (9, 3), (10, 5)]));
     Ok(())
 }

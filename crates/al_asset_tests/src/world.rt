@@ -1,5 +1,7 @@
 // A chain of blocks of transactions of assets, and its rows.
-ghost use Rattle.std.specs.Prelude.{◌≤◌, ◌^◌};
+ghost use Rattle.std.specs.Prelude.{◌≡◌, ◌≤◌, ◌^◌, All, [], sum_by, true};
+ghost use Rattle.al_bodies.specs.Ranges.{EffectInRange};
+ghost use Rattle.al_eval.specs.Groups.{size_of};
 ghost use Rattle.al_rows.specs.Rows.{AccountInRange};
 
 use al_base::{Address, AssetParams, Bytes, CreatorChanges, Key, Status};
@@ -7,7 +9,7 @@ use al_block::{Block, header_hash, payset_hashes};
 use al_deltas::{KeptRows, RoundDelta};
 use al_eval::{Before, EvalRefusal, Genesis, GenesisRow, Tail, eval, start_rows, start_totals};
 use al_moves::Rule;
-use al_rows::{AccountRow, AssetRow, Never, Row};
+use al_rows::{AccountRow, AssetRow, Never, Row, RowView};
 use al_txn::{AssetMove, Body, Config, Effects, Freeze, Item, Items, Txn};
 use std::alloc::{AllocError, Global};
 use std::test::*;
@@ -204,9 +206,32 @@ fn block_of(alloc: Global, before: &Before, items: Items) -> Result<Block, Alloc
     Ok(block)
 }
 
+// Whether no transaction has effects.
+fn are_plain(items: &[Item]) -> bool
+    ensures { result ≡ true → All (λ i. i.effects ≡ []) items.now }
+{
+    for item in items {
+        if !item.effects.is_empty() {
+            return false;
+        }
+    }
+    true
+}
+
+// Whether these are at most 1,000 transactions, of which none has effects.
+fn are_few(items: &[Item]) -> bool
+    ensures effects { result ≡ true → All (λ i. All EffectInRange i.effects) items.now }
+    ensures few { result ≡ true → sum_by size_of items.now ≤ 1000 }
+{
+    items.len() <= 1_000 && are_plain(items)
+}
+
 // Lets rows follow a block.
 fn follow(alloc: Global, world: &mut World, block: &Block) -> Result<RoundDelta, EvalRefusal<Never>>
-    requires { block.now.header.round ≤ 2 ^ 62 }
+    requires round { block.now.header.round ≤ 2 ^ 62 }
+    requires counter { world.old.before.header.counter ≤ 1000 }
+    requires effects { All (λ i. All EffectInRange i.effects) block.now.items }
+    requires few { sum_by size_of block.now.items ≤ 1000 }
 {
     let tail = Tail::new(alloc);
     let delta = match eval(alloc, &mut world.rows.view(), &world.before, &tail, block) {
@@ -229,6 +254,9 @@ pub(crate) fn next(
     let block = block_of(alloc, &world.before, items)?;
     if block.header.round > 1_000 {
         return Err(Fail::from("too many blocks"));
+    }
+    if world.before.header.counter > 1_000 || !are_few(block.items.as_slice()) {
+        return Err(Fail::from("too many transactions, or effects"));
     }
     match follow(alloc, world, &block) {
         Ok(delta) => {
@@ -271,5 +299,18 @@ pub(crate) fn count(world: &World, who: u8) -> u64 {
             _ => 0,
         },
         None => 0,
+    }
+}
+
+/// Makes an index of the creators of assets.
+pub(crate) fn index(world: &mut World) -> Result<(), AllocError> {
+    world.rows.index()
+}
+
+/// The creator of an asset.
+pub(crate) fn creator(world: &World, asset: u64) -> Option<Address> {
+    match world.rows.view().creator(asset) {
+        Ok(who) => who,
+        Err(_) => None,
     }
 }

@@ -1,6 +1,8 @@
-ghost use Rattle.std.specs.Prelude.{◌≤◌, IfSome, [], false};
+ghost use Rattle.std.specs.Prelude.{◌≡◌, ◌≤◌, All, IfSome, [], false, sum_by, true};
 ghost use Rattle.std.specs.FinMap.{from_entries};
 ghost use Rattle.al_base.specs.declared.key.Key.TheVariants as keys;
+ghost use Rattle.al_bodies.specs.Ranges.{EffectInRange};
+ghost use Rattle.al_eval.specs.Groups.{size_of};
 ghost use Rattle.al_rows.specs.Limits.{max_balance};
 ghost use Rattle.al_rows.specs.Rows.{InRange};
 
@@ -179,11 +181,34 @@ fn before(alloc: Global) -> Result<Before, Fail> {
     })
 }
 
+// Whether no transaction has effects.
+fn are_plain(items: &[Item]) -> bool
+    ensures { result ≡ true → All (λ i. i.effects ≡ []) items.now }
+{
+    for item in items {
+        if !item.effects.is_empty() {
+            return false;
+        }
+    }
+    true
+}
+
+// Whether these are at most 1,000 transactions, of which none has effects.
+fn are_few(items: &[Item]) -> bool
+    ensures effects { result ≡ true → All (λ i. All EffectInRange i.effects) items.now }
+    ensures few { result ≡ true → sum_by size_of items.now ≤ 1000 }
+{
+    items.len() <= 1_000 && are_plain(items)
+}
+
 fn step(alloc: Global, block: &Block) -> Result<Result<Evaluated, EvalRefusal<Never>>, Fail> {
     let before = before(alloc)?;
     let tail = Tail::new(alloc);
     if block.header.round != 1 {
         return Err(Fail::from("a block of another round"));
+    }
+    if before.header.counter > 1_000 || !are_few(block.items.as_slice()) {
+        return Err(Fail::from("too many transactions, or effects"));
     }
     Ok(eval_with_entries(alloc, &mut Two, &before, &tail, block))
 }

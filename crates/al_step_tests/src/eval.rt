@@ -1,9 +1,11 @@
-ghost use Rattle.std.specs.Prelude.{◌≤◌, ◌^◌, All};
+ghost use Rattle.std.specs.Prelude.{◌≤◌, ◌<◌, ◌^◌, All, IfOk, length, sum_by};
+ghost use Rattle.al_bodies.specs.Ranges.{EffectInRange};
+ghost use Rattle.al_eval.specs.Groups.{size_of};
 ghost use Rattle.al_rows.specs.Rows.{AccountInRange};
 
 use crate::genesis::OTHER;
 use al_base::{Address, Hash, Key, Status};
-use al_block::{Block, decode_block, header_hash};
+use al_block::{Block, BlockFault, decode_block, header_hash};
 use al_deltas::KeptRows;
 use al_eval::{Before, EvalRefusal, Genesis, GenesisRow, Tail, eval, start_rows, start_totals};
 use al_rewards::{Count, Totals};
@@ -45,6 +47,15 @@ fn rows_of(alloc: Global, accounts: &[GenesisRow]) -> Result<KeptRows, AllocErro
     Ok(KeptRows::new(alloc, rows))
 }
 
+// The block that bytes spell. It has at most as many transactions as bytes.
+fn decoded(alloc: Global, bytes: &[u8]) -> Result<Block, BlockFault>
+    requires { length bytes.now < 2 ^ 31 }
+    ensures effects { IfOk result (λ b. All (λ i. All EffectInRange i.effects) b.items) }
+    ensures few { IfOk result (λ b. sum_by size_of b.items ≤ 2 ^ 31) }
+{
+    decode_block(alloc, bytes)
+}
+
 // Lets rows follow a block, which leaves these totals.
 fn follow(
     alloc: Global,
@@ -53,7 +64,10 @@ fn follow(
     tail: &Tail,
     block: &Block,
 ) -> Result<Totals, EvalRefusal<Never>>
-    requires { block.now.header.round ≤ 2 ^ 62 }
+    requires round { block.now.header.round ≤ 2 ^ 62 }
+    requires counter { before.now.header.counter ≤ 1000 }
+    requires effects { All (λ i. All EffectInRange i.effects) block.now.items }
+    requires few { sum_by size_of block.now.items ≤ 2 ^ 31 }
 {
     let delta = match eval(alloc, &mut rows.view(), before, tail, block) {
         Ok(delta) => delta,
@@ -86,8 +100,9 @@ fn a_payment_is_applied_once(rt: HostRuntime) -> Result<(), Fail> {
     ];
     assert!(rt; genesis.accounts.as_slice() == accounts.as_slice());
     let mut rows = rows_of(rt.alloc(), &accounts)?;
-    let block = decode_block(rt.alloc(), BLOCK)?;
+    let block = decoded(rt.alloc(), BLOCK)?;
     assert!(rt; block.header.round <= 1);
+    assert!(rt; genesis.header.counter <= 1_000);
     let hash = header_hash(rt.alloc(), &genesis.header)?;
     let before = Before {
         chain: genesis.chain,
@@ -149,12 +164,13 @@ fn the_pool_is_short(rt: HostRuntime) -> Result<(), Fail> {
     header.rate = 10;
     header.recalc = 9;
     let hash = header_hash(rt.alloc(), &header)?;
-    let mut block = decode_block(rt.alloc(), BLOCK)?;
+    let mut block = decoded(rt.alloc(), BLOCK)?;
     block.header.prev = hash;
     block.header.rate = 10;
     block.header.recalc = 9;
     block.header.level = 5;
     assert!(rt; block.header.round <= 1);
+    assert!(rt; header.counter <= 1_000);
     let before = Before {
         chain: genesis.chain,
         header,
