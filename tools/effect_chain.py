@@ -1,10 +1,11 @@
 #!/usr/bin/env python3
 """Chains of calls of applications to measure with, for `ratio.py`.
 
-    effect_chain.py FOLDER one_box [EFFECTS]   20 blocks of one call, each with so many effects (256, the most), all of which put one box
-    effect_chain.py FOLDER boxes [EFFECTS]     the same effects, each of which puts a box of its own
-    effect_chain.py FOLDER mixed [BLOCKS]      blocks of 200 transactions among 1,000 accounts: of 10 in a row 5 are payments, 2 on assets
-                                               and 3 calls, one on a box, one on local states and one with an inner payment
+    effect_chain.py FOLDER one_box [EFFECTS]      20 blocks of one call, each with so many effects (256, the most), all of which put one box
+    effect_chain.py FOLDER boxes [EFFECTS]        the same effects, each of which puts a box of its own
+    effect_chain.py FOLDER boxes_back [EFFECTS]   the same, in the falling order of the boxes' names
+    effect_chain.py FOLDER mixed [BLOCKS]         blocks of 200 transactions among 1,000 accounts: of 10 in a row 5 are payments, 2 on assets
+                                                  and 3 calls, one on a box, one on local states and one with an inner payment
 
 An account is asked after each block: that of the application where there is one call a block, else one of the users.
 
@@ -48,6 +49,10 @@ def one_box(folder, effects):
 
 def boxes(folder, effects):
     puts(folder, effects, lambda i: i)
+
+
+def boxes_back(folder, effects):
+    puts(folder, effects, lambda i: effects - 1 - i)
 
 
 class Apps:
@@ -117,7 +122,7 @@ def mixed(folder, blocks):
 
 
 def main(folder, kind, count=None):
-    makers = {'one_box': (one_box, 256), 'boxes': (boxes, 256), 'mixed': (mixed, 60)}
+    makers = {'one_box': (one_box, 256), 'boxes': (boxes, 256), 'boxes_back': (boxes_back, 256), 'mixed': (mixed, 60)}
     maker, usual = makers[kind]
     maker(folder, int(count) if count else usual)
 

@@ -185,7 +185,7 @@ module _ (level : ℕ) (who : Address) (f : Flow) where
     pub flow_work : {F : Type 0} (r : Result (Unit {0}) (Stop F)) → IsFlow level who f es fs ss ts r → (t : Bool) (m : RowMap) → IsWork t m es ss → IsWork t m fs ts
     flow_work (Ok x) h t m w =
         let good = flowed_kept level who f h.was.row h.now.row (held_here (Ok x) h (λ y. IfSome y.row (InRange (key.Account who))) (w.ranged (key.Account who))) h.gives in
-        subst (IsWork t m fs) (sym h.kept) (replaced-work es fs ss (key.Account who) h.now.row h.was.row (replaces (Ok x) h) (held_row (Ok x) h) t m w good)
+        subst (IsWork t m fs) (sym (h.kept w.ordered)) (replaced-work es fs ss (key.Account who) h.now.row h.was.row (replaces (Ok x) h) (held_row (Ok x) h) t m w good)
     flow_work (Err e) h t m w =
         let k = key.Account who in
         let same : Some h.now ≡ Some h.was = ap (λ (b : Option Row). let x : Held = record { block = b; row = h.now.row } in Some x) h.block ∙ ap (λ (o : Option Row). let x : Held = record { block = h.was.block; row = o } in Some x) h.stays.0 in
@@ -206,7 +206,7 @@ module _ (level : ℕ) (who : Address) (f : Flow) where
 
     pub flow_start : {F : Type 0} (r : Result (Unit {0}) (Stop F)) → IsFlow level who f es fs ss ts r → OnOk r ((t : Bool) (m : RowMap) → IsWork t m es ss → overlaid ts (overlaid (nows fs) m) ≡ overlaid ss (overlaid (nows es) m))
     flow_start (Ok x) h = λ t m w.
-        ap (λ xs. overlaid xs (overlaid (nows fs) m)) h.kept
+        ap (λ xs. overlaid xs (overlaid (nows fs) m)) (h.kept w.ordered)
         ∙ replaced-start es fs ss (key.Account who) h.now.row h.was.row (replaces (Ok x) h) (held_row (Ok x) h) t m w
     flow_start (Err e) h = tt
 

@@ -23,7 +23,7 @@ use Rattle.al_overlay.specs.declared.rule.Rule.{Rule}
 use Rattle.al_overlay.specs.declared.rule.Stop.{Stop}
 use Rattle.al_overlay.specs.declared.rule.Stop.TheVariants as stop
 use Rattle.al_overlay.specs.Accounts.{give, share_of, take_in}
-use Rattle.al_overlay.specs.Held.{at, put_first}
+use Rattle.al_overlay.specs.Held.{AreInOrder, at, put_first}
 use Rattle.al_overlay.specs.Rules.{then_do, of_account, too_little}
 use Rattle.al_overlay.specs.Work.{nonzero}
 
@@ -70,5 +70,5 @@ pub record IsFlow {F T : Type 0} (level : ℕ) (who : Address) (f : Flow) (es fs
   pub updates : (q : Key) → at fs q ≡ cond (is_at (key_cmp (key.Account who)) q) (Some now) (at es q)
   pub block : now.block ≡ was.block
   pub gives : GivesRow (flowed level who f was.row) result now.row
-  pub kept : OnOk result (ts ≡ put_first (key.Account who) was.row ss)
+  pub kept : OnOk result (AreInOrder ss → ts ≡ put_first (key.Account who) was.row ss)
   pub stays : OnErr result ((now.row ≡ was.row) × (ts ≡ ss))

@@ -32,6 +32,10 @@ befores es = map (λ e. (e.0, e.1.block)) es
 abbrev pub with_row : Option Row → Held → Held
 with_row row h = record h { row = row }
 
+-- changes are in the order of their keys, each once
+abbrev pub AreInOrder : List (Key × Option Row) → Type 0
+AreInOrder es = IsStrictlySortedBy key_cmp (map (λ e. e.0) es)
+
 -- a list in the order of keys with a row under a key, unless it has one there
 abbrev pub put_first : Key → Option Row → List (Key × Option Row) → List (Key × Option Row)
 put_first k row [] = (k, row) ∷ []
@@ -43,4 +47,4 @@ pub record IsWork (tells : Bool) (block : RowMap) (rows : List (Key × Held)) (s
   pub ranged : (q : Key) → IfSome (at rows q) (λ h. IfSome h.row (InRange q))
   pub kept : (q : Key) → IfSome (at rows q) (λ h. same_row h.block h.row ≡ false → IfSome h.row (IsKept q))
   pub has_row : (q : Key) → IsSome (at started q) → IsSome (at rows q)
-  pub ordered : IsStrictlySortedBy key_cmp (map (λ e. e.0) started)
+  pub ordered : AreInOrder started

@@ -8,7 +8,7 @@ ghost use Rattle.al_rows.specs.Rows.{InRange, RowMap, account_in, is_zero};
 ghost use Rattle.al_overlay.specs.Accounts.{share_of};
 ghost use Rattle.al_overlay.specs.Creators.{AreOthers};
 ghost use Rattle.al_overlay.specs.Flows.{GivesRow, IsFlow, after_flow, balance_after, credited_share, flowed, with_balance, within};
-ghost use Rattle.al_overlay.specs.Held.{IsWork, at, nows, put_first};
+ghost use Rattle.al_overlay.specs.Held.{AreInOrder, IsWork, at, nows, put_first};
 ghost use Rattle.al_overlay.specs.Work.{Gives, IsCounted};
 
 use crate::held::{Held, account_row, keep_account, set_over, viewed};
@@ -160,7 +160,7 @@ fn flow_at<F>(
     requires { IfSome held.old.row (InRange (Key.Account who.now)) }
     ensures block { held.new.block ≡ held.old.block }
     ensures gives { GivesRow (flowed level who.now flow held.old.row) result held.new.row }
-    ensures kept { OnOk result (started.new.items ≡ put_first (Key.Account who.now) held.old.row started.old.items) }
+    ensures kept { OnOk result (AreInOrder started.old.items → started.new.items ≡ put_first (Key.Account who.now) held.old.row started.old.items) }
     ensures err { OnErr result ((held.new.row ≡ held.old.row) × (started.new.items ≡ started.old.items)) }
 {
     let share = credited(level, share_in(&held.row));

@@ -9,14 +9,13 @@ ghost use Rattle.al_base.specs.Keys.{key_cmp};
 ghost use Rattle.al_rows.specs.Finite.{overlaid, set_at};
 ghost use Rattle.al_rows.specs.Rows.{AccountInRange, InRange, IsKept, RowMap, account, account_in};
 ghost use Rattle.al_overlay.specs.Creators.{AreOthers};
-ghost use Rattle.al_overlay.specs.Held.{IsWork, at, nows, put_first, with_row};
+ghost use Rattle.al_overlay.specs.Held.{AreInOrder, IsWork, at, nows, put_first, with_row};
 ghost use Rattle.al_overlay.specs.Work.{IsNoRule, IsCounted};
 
 use crate::Stop;
 use al_base::{Address, Key};
 use al_rows::{AccountRow, Row, RowView, ViewFault, account_in, copy_row};
 use std::alloc::{AllocError, Global};
-use std::cmp::Ordering;
 use std::collections::BTreeMap;
 use std::mem;
 
@@ -108,16 +107,13 @@ fn put(rows: &mut BTreeMap<Key, Held>, key: &Key, held: Held) -> Result<(), Allo
 // The place in the order of keys of a key that is not there.
 #[inline(always)]
 fn place_of(started: &[(Key, Option<Row>)], key: &Key) -> Option<usize>
-    ensures { MatchOption result ((row : Option Row) → put_first key.now row started.now ≡ started.now) (λ i. (i ≤ length started.now) × ((row : Option Row) → insert started.now i (key.now, row) ≡ put_first key.now row started.now)) }
+    ensures within { IfSome result (λ i. i ≤ length started.now) }
+    ensures place { AreInOrder started.now → MatchOption result ((row : Option Row) → put_first key.now row started.now ≡ started.now) (λ i. (row : Option Row) → insert started.now i (key.now, row) ≡ put_first key.now row started.now) }
 {
-    for (i, entry) in started.iter().enumerate() {
-        match key.compare(&entry.0) {
-            Ordering::Less => return Some(i),
-            Ordering::Equal => return None,
-            Ordering::Greater => {}
-        }
+    match started.binary_search_by(|entry| entry.0.compare(key)) {
+        Ok(_) => None,
+        Err(i) => Some(i),
     }
-    Some(started.len())
 }
 
 // Keeps the row that stood under a key when the transaction began, unless one is kept.
@@ -127,7 +123,7 @@ fn keep(
     key: &Key,
     old: Option<Row>,
 ) -> Result<(), AllocError>
-    ensures ok { OnOk result (started.new.items ≡ put_first key.now old started.old.items) }
+    ensures ok { OnOk result (AreInOrder started.old.items → started.new.items ≡ put_first key.now old started.old.items) }
     ensures err { OnErr result (started.new.items ≡ started.old.items) }
 {
     match place_of(started, key) {
@@ -158,7 +154,7 @@ pub fn keep_account(
     row: &Option<Row>,
 ) -> Result<(), AllocError>
     requires { IfSome row.now (InRange (Key.Account who.now)) }
-    ensures ok { OnOk result (started.new.items ≡ put_first (Key.Account who.now) row.now started.old.items) }
+    ensures ok { OnOk result (AreInOrder started.old.items → started.new.items ≡ put_first (Key.Account who.now) row.now started.old.items) }
     ensures err { OnErr result (started.new.items ≡ started.old.items) }
 {
     let key = Key::Account(*who);

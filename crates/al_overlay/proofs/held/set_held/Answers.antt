@@ -9,7 +9,7 @@ use Rattle.al_overlay.proofs.held.set_held.Goals as goal
 
 pub returns-in-Ok-keep-clause-work : goal.returns-in-Ok-keep-clause-work
 returns-in-Ok-keep-clause-work c = λ t m w.
-    subst (λ (ss : List (Key × Option Row)). IsWork t m c.replace.new.rows.entries ss) (sym c.in-Ok-keep.ensures.ok)
+    subst (λ (ss : List (Key × Option Row)). IsWork t m c.replace.new.rows.entries ss) (sym (c.in-Ok-keep.ensures.ok w.ordered))
     (replaced-work c.args.rows.now.entries c.replace.new.rows.entries c.args.started.now.items c.args.key.now c.args.row c.in-Ok.old c.in-Ok.ensures.ok c.in-Ok.ensures.old t m w c.requires)
 
 pub returns-in-Err-keep-clause-work : goal.returns-in-Err-keep-clause-work
@@ -23,5 +23,5 @@ returns-in-Ok-keep-clause-now c = λ m.
 
 pub returns-in-Ok-keep-clause-start : goal.returns-in-Ok-keep-clause-start
 returns-in-Ok-keep-clause-start c = λ t m w.
-    ap (λ (ss : List (Key × Option Row)). overlaid ss (overlaid (nows c.replace.new.rows.entries) m)) c.in-Ok-keep.ensures.ok
+    ap (λ (ss : List (Key × Option Row)). overlaid ss (overlaid (nows c.replace.new.rows.entries) m)) (c.in-Ok-keep.ensures.ok w.ordered)
     ∙ replaced-start c.args.rows.now.entries c.replace.new.rows.entries c.args.started.now.items c.args.key.now c.args.row c.in-Ok.old c.in-Ok.ensures.ok c.in-Ok.ensures.old t m w

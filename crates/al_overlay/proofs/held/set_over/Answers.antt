@@ -13,7 +13,7 @@ returns-in_err-keep-clause-work c = λ t m w is.
 
 pub returns-clause-work : goal.returns-clause-work
 returns-clause-work c = λ t m w is.
-    subst (λ (ss : List (Key × Option Row)). IsWork t m c.put.new.rows.entries ss) (sym c.in_ok-keep.ensures.ok)
+    subst (λ (ss : List (Key × Option Row)). IsWork t m c.put.new.rows.entries ss) (sym (c.in_ok-keep.ensures.ok w.ordered))
     (added-started c.args.rows.now.entries c.put.new.rows.entries c.args.started.now.items c.args.key.now c.args.block c.args.row c.in_ok-put.ensures.ok t m c.args.old w (λ e. c.requires.copied ∙ is e) c.requires.kept)
 
 pub returns-clause-now : goal.returns-clause-now
@@ -22,5 +22,5 @@ returns-clause-now c = λ m.
 
 pub returns-clause-start : goal.returns-clause-start
 returns-clause-start c = λ t m w none is.
-    ap (λ (ss : List (Key × Option Row)). overlaid ss (overlaid (nows c.put.new.rows.entries) m)) c.in_ok-keep.ensures.ok
+    ap (λ (ss : List (Key × Option Row)). overlaid ss (overlaid (nows c.put.new.rows.entries) m)) (c.in_ok-keep.ensures.ok w.ordered)
     ∙ added-start c.args.rows.now.entries c.put.new.rows.entries c.args.started.now.items c.args.key.now c.args.block c.args.row c.in_ok-put.ensures.ok t m c.args.old w none is
