@@ -1,0 +1,4 @@
+pub mod Good
+pub mod Openings
+pub mod Parts
+pub mod TurnLemmas

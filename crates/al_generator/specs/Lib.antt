@@ -1,0 +1,4 @@
+pub mod Draws
+pub mod Genesis
+pub mod Items
+pub mod Turns
