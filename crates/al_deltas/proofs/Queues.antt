@@ -6,6 +6,7 @@ use Rattle.std.specs.Option.{option_or}
 use Rattle.std.specs.FinMap.{get}
 use Rattle.std.specs.Map.{lookup}
 use Rattle.std.specs.BTreeMap.{is_at}
+use Rattle.al_base.specs.declared.address.Address.{Address}
 use Rattle.al_base.specs.declared.key.Key.{Key}
 use Rattle.al_base.specs.Keys.{key_cmp}
 use Rattle.al_deltas.specs.declared.delta.RoundDelta.{RoundDelta}
@@ -18,7 +19,7 @@ use Rattle.al_rows.specs.Rows.{IsKept}
 use Rattle.al_rows.proofs.Keys.{keys_total, exact_keys}
 use Rattle.al_rows.proofs.Maps.{find-lookup, get-overlaid}
 use Rattle.al_deltas.proofs.Searches.{equal}
-use Rattle.al_deltas.specs.Queue.{StoredMap, Queue, IsQueue, IsKeptDelta, AreRounds, top, left_of, stored_at, left_by, changed_in, last_change, last_of, after_delta, rows_after, totals_after, level_after, up_to, from_round}
+use Rattle.al_deltas.specs.Queue.{StoredMap, Queue, IsQueue, IsKeptDelta, AreRounds, top, left_of, stored_at, left_by, changed_in, creator_in, last_change, last_creator, last_of, after_delta, rows_after, totals_after, level_after, up_to, from_round}
 
 pub at_left : (round : ℕ) (cs : List Change) (q : Key) → lookup (is_at (key_cmp q)) (map (left_of round) cs) ≡ option_map (stored_at round) (changed_in q cs)
 at_left round [] q = refl
@@ -83,6 +84,18 @@ find_step q xs d left is none = ap (λ o. option_or (option_map (λ row. (d.roun
 
 pub find_here : (q : Key) (xs : List RoundDelta) (d : RoundDelta) (left : List RoundDelta) (row : Option Row) → left ≡ xs ++ d ∷ [] → changed_in q d.changes ≡ Some row → Some (d.round, row) ≡ last_change q left
 find_here q xs d left row is some = ap (λ o. option_or (option_map (λ r. (d.round, r)) o) (last_change q xs)) (sym some) ∙ sym (last_more q xs d) ∙ ap (last_change q) (sym is)
+
+-- ---- the last change of a creator
+
+creator_more : (id : ℕ) (ds : List RoundDelta) (d : RoundDelta) → last_creator id (ds ++ d ∷ []) ≡ option_or (creator_in id d.creators) (last_creator id ds)
+creator_more id [] d = sym (or_none (creator_in id d.creators))
+creator_more id (x ∷ ds) d = ap (λ o. option_or o (creator_in id x.creators)) (creator_more id ds d) ∙ or_assoc (creator_in id d.creators) (last_creator id ds) (creator_in id x.creators)
+
+pub creator_step : (id : ℕ) (xs : List RoundDelta) (d : RoundDelta) (left : List RoundDelta) → left ≡ xs ++ d ∷ [] → creator_in id d.creators ≡ None → last_creator id xs ≡ last_creator id left
+creator_step id xs d left is none = ap (λ o. option_or o (last_creator id xs)) (sym none) ∙ sym (creator_more id xs d) ∙ ap (last_creator id) (sym is)
+
+pub creator_here : (id : ℕ) (xs : List RoundDelta) (d : RoundDelta) (left : List RoundDelta) (creator : Option Address) → left ≡ xs ++ d ∷ [] → creator_in id d.creators ≡ Some creator → Some creator ≡ last_creator id left
+creator_here id xs d left creator is some = ap (λ o. option_or o (last_creator id xs)) (sym some) ∙ sym (creator_more id xs d) ∙ ap (last_creator id) (sym is)
 
 -- ---- one round more
 

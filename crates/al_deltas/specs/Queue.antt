@@ -7,6 +7,9 @@ use Rattle.std.specs.Option.{option_or}
 use Rattle.std.specs.Map.{lookup}
 use Rattle.std.specs.BTreeMap.{is_at}
 use Rattle.std.specs.FinMap.{FinMap}
+use Rattle.std.specs.Ordering.{nat_cmp}
+use Rattle.al_base.specs.declared.address.Address.{Address}
+use Rattle.al_base.specs.declared.key.CreatorChange.{CreatorChange}
 use Rattle.al_base.specs.declared.key.Key.{Key}
 use Rattle.al_base.specs.Keys.{key_cmp}
 use Rattle.al_deltas.specs.declared.delta.RoundDelta.{RoundDelta}
@@ -42,6 +45,19 @@ abbrev pub last_change : Key → List RoundDelta → Option (ℕ × Option Row)
 last_change q [] = None
 last_change q (d ∷ ds) = option_or (last_change q ds) (option_map (λ row. (d.round, row)) (changed_in q d.changes))
 
+-- a change of a creator as a pair
+abbrev pub creator_pair : CreatorChange → ℕ × Option Address
+creator_pair c = (c.id, c.now)
+
+-- what these change of the creator of an id, if they do
+abbrev pub creator_in : ℕ → List CreatorChange → Option (Option Address)
+creator_in id cs = lookup (is_at (nat_cmp id)) (map creator_pair cs)
+
+-- the last change of the creator of an id
+abbrev pub last_creator : ℕ → List RoundDelta → Option (Option Address)
+last_creator id [] = None
+last_creator id (d ∷ ds) = option_or (last_creator id ds) (creator_in id d.creators)
+
 -- what a change with its round leaves
 abbrev pub left_by : ℕ × Option Row → Option Stored
 left_by c = stored_at c.0 c.1
@@ -76,10 +92,11 @@ abbrev pub AreRounds : ℕ → List RoundDelta → Type 0
 AreRounds base [] = ⊤
 AreRounds base (d ∷ ds) = (d.round ≡ suc base) × AreRounds (suc base) ds
 
--- the changes of a block rise by their keys, and what they leave may be kept
+-- the changes of a block rise by their keys, and what they leave may be kept; those of creators rise by their ids
 pub record IsKeptDelta (d : RoundDelta) : Type 0 where
   pub ordered : IsStrictlySortedBy key_cmp (map (λ c. c.key) d.changes)
   pub kept : All (λ c. IfSome c.row (IsKept c.key)) d.changes
+  pub creators : IsStrictlySortedBy nat_cmp (map (λ c. c.id) d.creators)
 
 pub record Queue : Type 0 where
   -- the round of the rows below

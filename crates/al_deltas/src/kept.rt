@@ -7,14 +7,14 @@ ghost use Rattle.std.specs.Map.{lookup};
 ghost use Rattle.std.specs.BTreeMap.{IsOrdered, is_at};
 ghost use Rattle.al_base.specs.Keys.{key_cmp};
 ghost use Rattle.al_rows.specs.Finite.{or_below};
-ghost use Rattle.al_rows.specs.Rows.{IsKept, bare};
+ghost use Rattle.al_rows.specs.Rows.{IsKept, bare, creator_of};
 ghost use Rattle.al_deltas.specs.Index.{IsIndex, shows_params};
 ghost use Rattle.al_deltas.specs.Queue.{IsKeptDelta, after_delta, left_of, stored_at};
 
 use crate::RoundDelta;
 use crate::index::{Creators, follow, index_of};
-use al_base::Key;
-use al_rows::{Change, Row, Stored, StoredView};
+use al_base::{Address, Key};
+use al_rows::{Change, Row, RowView, Stored, StoredView, ViewFault};
 use std::alloc::{AllocError, Global};
 use std::collections::BTreeMap;
 use std::marker::Model;
@@ -89,6 +89,19 @@ impl KeptRows {
         ensures kept { IfSome result (λ s. IsKept key.now s.now.row) }
     {
         row_under(&self.rows, key)
+    }
+
+    /// The creator of an asset or an application. It is looked up in the index, and among all rows
+    /// where there is none. Errors: no memory.
+    pub fn creator(&self, id: u64) -> Result<Option<Address>, AllocError>
+        ensures { IfOk result (λ creator. creator ≡ creator_of (bare self.now) id) }
+    {
+        let mut view = self.view();
+        match view.creator(id) {
+            Ok(creator) => Ok(creator),
+            Err(ViewFault::Failed(never)) => match never {},
+            Err(ViewFault::Memory) => Err(AllocError),
+        }
     }
 
     /// Puts the rows that a block leaves. A call that is refused has put a part of them: to put them

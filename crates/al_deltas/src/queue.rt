@@ -2,12 +2,13 @@
 ghost use Rattle.std.specs.Prelude.{◌≡◌, ◌++◌, ◌∷◌, ◌-◌, ◌<◌, ◌≤◌, ◌^◌, [], suc, All, IfSome, OnOk, OnErr, option_map, map, get_or};
 ghost use Rattle.std.specs.Option.{option_copied};
 ghost use Rattle.std.specs.List.Sorted.{IsStrictlySortedBy};
+ghost use Rattle.std.specs.Ordering.{nat_cmp};
 ghost use Rattle.al_base.specs.Keys.{key_cmp};
 ghost use Rattle.al_rows.specs.Rows.{IsKept};
-ghost use Rattle.al_deltas.specs.Queue.{IsKeptDelta, changed_in, last_change, last_of, level_after, top, totals_after, up_to};
+ghost use Rattle.al_deltas.specs.Queue.{IsKeptDelta, changed_in, creator_in, last_change, last_creator, last_of, level_after, top, totals_after, up_to};
 
 use crate::RoundDelta;
-use al_base::Key;
+use al_base::{Address, CreatorChange, Key};
 use al_rewards::Totals;
 use al_rows::{Change, Row};
 use std::alloc::{AllocError, Global};
@@ -97,6 +98,16 @@ impl Deltas {
         find_in(&self.deltas[..(to - self.base) as usize], key)
     }
 
+    /// The last change of the creator of an asset or an application at a round above the base and at
+    /// most `to`. It takes no memory.
+    pub fn creator(&self, id: u64, to: u64) -> Option<Option<Address>>
+        requires from { self.now.base ≤ to }
+        requires top { to ≤ top self.now }
+        ensures { result ≡ last_creator id (up_to to self.now) }
+    {
+        creator_in(&self.deltas[..(to - self.base) as usize], id)
+    }
+
     /// The totals after a round from the base to the last one.
     pub fn totals(&self, round: u64) -> Totals
         requires from { self.now.base ≤ round }
@@ -179,6 +190,41 @@ fn find_in<'a>(deltas: &'a [RoundDelta], key: &Key) -> Option<(u64, &'a Option<R
     while let Some((last, before)) = left.split_last() {
         if let Some(row) = change_in(last.changes.as_slice(), key) {
             return Some((last.round, row));
+        }
+        left = before;
+    }
+    None
+}
+
+// What these change of the creator of an id. They rise by their ids.
+fn creator_change_in(changes: &[CreatorChange], id: u64) -> Option<Option<Address>>
+    requires { IsStrictlySortedBy nat_cmp (map (λ c. c.id) changes.now) }
+    ensures { result ≡ creator_in id changes.now }
+{
+    let mut left = changes;
+    while let Some((middle, above)) = left.split_at(left.len() / 2).1.split_first() {
+        let order = id.cmp(&middle.id);
+        if order.is_eq() {
+            return Some(middle.now);
+        }
+        left = if order.is_lt() {
+            left.split_at(left.len() / 2).0
+        } else {
+            above
+        };
+    }
+    None
+}
+
+// The last change of the creator of an id.
+fn creator_in(deltas: &[RoundDelta], id: u64) -> Option<Option<Address>>
+    requires { All IsKeptDelta deltas.now }
+    ensures { result ≡ last_creator id deltas.now }
+{
+    let mut left = deltas;
+    while let Some((last, before)) = left.split_last() {
+        if let Some(creator) = creator_change_in(last.creators.as_slice(), id) {
+            return Some(creator);
         }
         left = before;
     }
