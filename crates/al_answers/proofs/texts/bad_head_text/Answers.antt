@@ -1,0 +1,6 @@
+use Rattle.std.proofs.Common.{sym}
+use Rattle.al_answers.proofs.Constants.{bad_head_is}
+use Rattle.al_answers.proofs.texts.bad_head_text.Goals as goal
+
+pub returns : goal.returns
+returns c = sym bad_head_is

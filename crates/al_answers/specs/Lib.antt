@@ -1,0 +1,4 @@
+pub mod HeaderFields
+pub mod Json
+pub mod Objects
+pub mod Answers

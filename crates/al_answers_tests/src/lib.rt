@@ -1,0 +1,7 @@
+//! Tests of `al_answers`, over public calls.
+#![tactic(auto)]
+
+#[cfg(test)]
+mod samples;
+#[cfg(test)]
+mod tests;
