@@ -1,11 +1,11 @@
 -- Heads on a list of bytes, as more bytes come.
-use Rattle.std.proofs.Common.{◌≡◌, ◌≤◌, ◌<◌, ◌⊎◌, inl, inr, ℕ, List, ◌++◌, length, take, drop, refl, sym, ap, ◌∙◌, arith, subst, append_assoc, length-append, ◌||◌, ◌&&◌, ◌==◌, map, codes}
+use Rattle.std.proofs.Common.{◌≡◌, ◌≤◌, ◌<◌, ◌⊎◌, inl, inr, ℕ, List, ◌++◌, length, take, drop, refl, sym, ap, ◌∙◌, arith, subst, append_assoc, length-append, ◌||◌, ◌==◌, map}
 use Rattle.std.proofs.lemmas.List.{take-append-drop, take-append-le, take_at, drop-append-le, length-take-le, length-map, length-take}
 use Rattle.httparse.specs.Grammar.{RequestHead, ReadsRequest, print_request, HasNoRequest, NeverHasRequest}
 use Rattle.httparse.specs.Spans.{RequestExceeds, IsRequestAt, IsRequestWithin, header_bytes, name_and_value, span_bytes}
 use Rattle.httparse.specs.declared.spans.HeaderSpan.{HeaderSpan}
 use Rattle.httparse.specs.declared.spans.RequestSpans.{RequestSpans}
-use Rattle.al_http.specs.Fields.{size_of, says_close, is_none, values}
+use Rattle.al_http.specs.Fields.{size_of, says_close}
 use Rattle.httparse.proofs.GrammarLemmas.{ReadsRequest-append}
 use Rattle.al_http.specs.declared.head.Head.{Head}
 use Rattle.al_http.specs.declared.head.HeadRead.{HeadRead}
@@ -66,9 +66,8 @@ bad_in_front buf read.Bad x not long = subst IsBadHead (take-append-drop most_he
 -- what the parser answers, as a head
 pub head_at : (front : List ℕ) (headers : List HeaderSpan) (spans : RequestSpans) (head : Head) (h : RequestHead) → IsRequestAt front headers spans h → IsRequestWithin front headers spans → length front ≤ most_head → length headers ≤ most_fields
     → head.used ≡ spans.len → head.method ≡ span_bytes front spans.method → head.target ≡ span_bytes front spans.path → head.body ≡ size_of (map (header_bytes front) (take spans.headers headers))
-    → head.close ≡ ((spans.version == 0) || says_close (map (header_bytes front) (take spans.headers headers)))
-    → head.bare ≡ ((spans.version == 1) && is_none (values (codes "connection") (map (header_bytes front) (take spans.headers headers)))) → IsHeadAt front head h
-head_at front headers spans head h x w short few used method target body close bare = record {
+    → head.close ≡ ((spans.version == 0) || says_close (map (header_bytes front) (take spans.headers headers))) → IsHeadAt front head h
+head_at front headers spans head h x w short few used method target body close = record {
   reads = subst (λ n. ReadsRequest front h (drop n front)) (sym used) x.reads;
   limits = record {
     bytes = omega (arith, x.len, w.section.len_fits);
@@ -84,7 +83,6 @@ head_at front headers spans head h x w short few used method target body close b
     method = method ∙ x.method;
     target = target ∙ x.path;
     body = body ∙ ap size_of x.fields;
-    bare = bare ∙ ap (λ n. (n == 1) && is_none (values (codes "connection") (map (header_bytes front) (take spans.headers headers)))) x.version ∙ ap (λ ps. (h.minor == 1) && is_none (values (codes "connection") ps)) x.fields;
     close = close ∙ ap (λ n. (n == 0) || says_close (map (header_bytes front) (take spans.headers headers))) x.version ∙ ap (λ ps. (h.minor == 0) || says_close ps) x.fields;
   };
 }

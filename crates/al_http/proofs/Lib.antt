@@ -1,9 +1,6 @@
-pub mod Floats
-pub mod Constants
+pub mod AskLemmas
 pub mod FieldLemmas
 pub mod HeadLemmas
 pub mod LawLemmas
-pub mod NumberLemmas
-pub mod AskLemmas
 pub mod RestLemmas
-pub mod TextLemmas
+pub mod MethodLemmas

@@ -1,28 +1,59 @@
--- What is known of the bytes of a connection after each answer of `read_head` and of `Head::asked`.
-use Rattle.std.proofs.Common.{◌≡◌, ◌≤◌, ◌<◌, ◌⊎◌, inl, inr, ◌+◌, ◌-◌, ◌||◌, ◌==◌, ℕ, false, List, [], ◌∷◌, ◌++◌, length, take, drop, replicate, refl, sym, ap, ◌∙◌, arith, subst, append_assoc, length-append, codes, ap₂}
-use Rattle.std.specs.List.{list_any}
+-- What is known of the bytes of a connection after each answer of `read_head` and of `Head::size`.
+use Rattle.std.proofs.Common.{◌≡◌, ◌≤◌, ◌<◌, ◌⊎◌, inl, inr, ◌+◌, ◌-◌, ℕ, Bool, true, false, cond, nat_lt, ltb-true, ltb-false, true≢false, List, [], ◌∷◌, ◌++◌, length, take, drop, replicate, refl, sym, ap, ◌∙◌, arith, subst, append_assoc, length-append, Result, Ok, Err}
 use Rattle.std.proofs.lemmas.List.{append-nil, take-append-drop, length-take-le, length-replicate, length-drop}
 use Rattle.httparse.specs.Grammar.{RequestHead, ReadsRequest, print_request, HasNoRequest, MayBecomeRequest, EndsInTarget}
-use Rattle.httparse.proofs.GrammarLemmas.{ReadsRequest-append, request_unique}
+use Rattle.al_http.specs.declared.asking.SizeFault.{SizeFault}
+use Rattle.al_http.specs.declared.asking.SizeFault.TheVariants as faults
+use Rattle.al_http.specs.declared.head.BodySize.{BodySize}
+use Rattle.al_http.specs.declared.head.BodySize.TheVariants.{Length, Coded, Bad}
 use Rattle.al_http.specs.declared.head.Head.{Head}
-use Rattle.al_http.specs.declared.head.BodySize.TheVariants.{Length}
-use Rattle.al_http.specs.declared.asking.Request.{Request}
-use Rattle.al_http.specs.declared.asking.Request.TheVariants.{Post, Account}
-use Rattle.al_http.specs.Asks.{FitsBody}
-use Rattle.al_http.specs.Fields.{fields_of, size_of, is_same_text, ends_after}
 use Rattle.al_http.specs.Limits.{most_body, most_head}
-use Rattle.al_http.specs.Requests.{Message, IsRequest, IsBuilt, spell, IsUnfinished, IsPartOfHead, IsBadHead, NeverHasBuilt}
+use Rattle.al_http.specs.Sizes.{size_read}
+use Rattle.al_http.specs.Requests.{Message, IsRequest, spell, IsUnfinished, IsPartOfHead, IsRefusedHead}
 use Rattle.al_http.specs.Heads.{IsHeadAt}
 
--- a bad head: `HeadRead::Bad`
-pub bad_never_built : (buf : List ℕ) → IsBadHead buf → NeverHasBuilt buf
-bad_never_built buf bad = λ more h behind reads built. bad.never more h behind reads built.limits
+-- ---- the length of a body
 
--- a whole head that is not built: `Head::asked` is None
-pub unbuilt_never_built : (buf : List ℕ) (head : Head) (h : RequestHead) → IsHeadAt buf head h → (IsBuilt h → ⊥) → NeverHasBuilt buf
-unbuilt_never_built buf head h x not = λ more k behind reads built.
-    let same = request_unique (buf ++ more) k h behind (drop head.used buf ++ more) reads (ReadsRequest-append buf h (drop head.used buf) more x.reads) in
-    not (subst IsBuilt same.0 built)
+-- a length, or why there is none
+abbrev Size : Type 0
+Size = Result ℕ SizeFault
+
+abbrev is_read : Size → Bool
+is_read (Ok n) = true
+is_read (Err fault) = false
+
+abbrev length_read : Size → ℕ
+length_read (Ok n) = n
+length_read (Err fault) = 0
+
+same_length : (m n : ℕ) → ◌≡◌ {A = Size} (Ok m) (Ok n) → m ≡ n
+same_length m n is = ap length_read is
+
+-- what is read is not refused
+pub read_not_refused : (n : ℕ) (fault : SizeFault) → ◌≡◌ {A = Size} (Ok n) (Err fault) → ⊥
+read_not_refused n fault is = true≢false (ap is_read is)
+
+-- a length within the limit is read
+pub size_fits : (n : ℕ) → n ≤ most_body → size_read (Length n) ≡ Ok n
+size_fits n fits = by_test (nat_lt most_body n) refl
+  where
+    by_test : (b : Bool) → nat_lt most_body n ≡ b → size_read (Length n) ≡ Ok n
+    by_test true is = absurd (omega (arith, fits, ltb-true most_body n is))
+    by_test false is = ap (λ t. cond t (Err faults.TooLarge) (Ok n)) is
+
+-- what is read is a length within the limit
+pub size_ok : (body : BodySize) (n : ℕ) → size_read body ≡ Ok n → (body ≡ Length n) × (n ≤ most_body)
+size_ok Coded n e = absurd (read_not_refused n faults.Coding (sym e))
+size_ok Bad n e = absurd (read_not_refused n faults.BadLength (sym e))
+size_ok (Length m) n e = by_test (nat_lt most_body m) refl
+  where
+    by_test : (b : Bool) → nat_lt most_body m ≡ b → (Length m ≡ Length n) × (n ≤ most_body)
+    by_test true is = absurd (read_not_refused n faults.TooLarge (sym (subst (λ (t : Bool). ◌≡◌ {A = Size} (cond t (Err faults.TooLarge) (Ok m)) (Ok n)) is e)))
+    by_test false is =
+        let same : m ≡ n = same_length m n (subst (λ (t : Bool). ◌≡◌ {A = Size} (cond t (Err faults.TooLarge) (Ok m)) (Ok n)) is e) in
+        (ap Length same, omega (arith, ltb-false most_body m is, same))
+
+-- ---- the bytes
 
 -- no head yet: `HeadRead::Partial`
 pub partial_unfinished : (buf : List ℕ) → length buf ≤ most_head → HasNoRequest buf → MayBecomeRequest buf → IsUnfinished buf
@@ -36,20 +67,22 @@ partial_unfinished buf short none may = inr (record { short = short; none = none
     by_case (inl (more, h, reads)) = inl (more, h, some h more reads, reads.0, reads.1 ∙ append-nil (print_request h))
     by_case (inr target) = inr target
 
--- a body that fits is within the limit
-pub body_most : (request : Request) (size : ℕ) → FitsBody request size → size ≤ most_body
-body_most Post size fits = fits
-body_most (Account address round) size fits = omega (arith, fits)
+-- a whole head whose body is refused
+pub refused_head : (buf : List ℕ) (head : Head) (h : RequestHead) (fault : SizeFault) → IsHeadAt buf head h → size_read head.body ≡ Err fault → IsRefusedHead fault buf
+refused_head buf head h fault x e = (h, drop head.used buf, x.reads, x.limits, ap size_read (sym x.is.body) ∙ e)
 
--- a whole head that is built, and less than its body
-pub body_unfinished : (buf : List ℕ) (head : Head) (h : RequestHead) (size : ℕ) → IsHeadAt buf head h → IsBuilt h → size_of (fields_of h) ≡ Length size → length buf < head.used + size → IsUnfinished buf
-body_unfinished buf head h n x built size short = inl (more, m, some, is, same)
+-- a whole head, and less than its body
+pub body_unfinished : (buf : List ℕ) (head : Head) (h : RequestHead) (size : ℕ) → IsHeadAt buf head h → size_read head.body ≡ Ok size → length buf < head.used + size → IsUnfinished buf
+body_unfinished buf head h n x read short = inl (more, m, some, is, same)
   where
     more : List ℕ
     more = replicate (n - length (drop head.used buf)) 0
 
     m : Message
     m = record { head = h; body = drop head.used buf ++ replicate (n - length (drop head.used buf)) 0 }
+
+    ok : (head.body ≡ Length n) × (n ≤ most_body)
+    ok = size_ok head.body n read
 
     parts : length buf ≡ head.used + length (drop head.used buf)
     parts = (let all = ap length x.reads.1 in omega (arith, all, length-append (print_request h) (drop head.used buf), x.is.used))
@@ -61,27 +94,34 @@ body_unfinished buf head h n x built size short = inl (more, m, some, is, same)
     some = omega (arith, parts, short, length-replicate {A = ℕ} (n - length (drop head.used buf)) 0)
 
     is : IsRequest (record { head = h; body = drop head.used buf ++ replicate (n - length (drop head.used buf)) 0 })
-    is = record { head = x.reads.0; built = built; size = size ∙ ap Length long }
+    is = record {
+      head = x.reads.0;
+      limits = x.limits;
+      size = sym x.is.body ∙ ok.0 ∙ ap Length long;
+      most = omega (arith, ok.1, long);
+    }
 
     same : buf ++ replicate (n - length (drop head.used buf)) 0 ≡ print_request h ++ (drop head.used buf ++ replicate (n - length (drop head.used buf)) 0)
     same = ap (λ bytes. bytes ++ replicate (n - length (drop head.used buf)) 0) x.reads.1 ∙ append_assoc (print_request h) (drop head.used buf) (replicate (n - length (drop head.used buf)) 0)
 
--- a whole head that is built, and its whole body: a request stands at the front
-pub whole_request : (buf : List ℕ) (head : Head) (h : RequestHead) (size : ℕ) → IsHeadAt buf head h → IsBuilt h → size_of (fields_of h) ≡ Length size → head.used + size ≤ length buf
+-- a whole head and its whole body: a request stands at the front
+pub whole_request : (buf : List ℕ) (head : Head) (h : RequestHead) (size : ℕ) → IsHeadAt buf head h → size_read head.body ≡ Ok size → head.used + size ≤ length buf
     → (m : Message) × (rest : List ℕ) × IsRequest m × (m.head ≡ h) × (size ≡ length m.body) × (m.body ≡ take size (drop head.used buf)) × (buf ≡ spell m ++ rest)
-whole_request buf head h n x built size fits =
+whole_request buf head h n x read fits =
+    let ok = size_ok head.body n read in
     let behind : List ℕ = drop head.used buf in
     let m : Message = record { head = h; body = take n behind } in
     let long : length (take n behind) ≡ n = length-take-le n behind (omega (arith, fits, length-drop head.used buf)) in (
       m,
       drop n behind,
-      record { head = x.reads.0; built = built; size = size ∙ ap Length (sym long) },
+      record {
+        head = x.reads.0;
+        limits = x.limits;
+        size = sym x.is.body ∙ ok.0 ∙ ap Length (sym long);
+        most = omega (arith, ok.1, long);
+      },
       refl,
       sym long,
       refl,
       x.reads.1 ∙ ap (λ bytes. print_request h ++ bytes) (sym (take-append-drop n behind)) ∙ sym (append_assoc (print_request h) (take n behind) (drop n behind)),
     )
-
--- a head that is built does not end the connection
-pub built_is_open : (h : RequestHead) → IsBuilt h → ends_after h ≡ false
-built_is_open h built = ap₂ (λ minor vs. (minor == 0) || list_any (λ v. is_same_text v (codes "close")) vs) built.minor built.silent

@@ -1,6 +1,6 @@
 -- What the fields of a head say, as functions of their names and values (RFC 9110, 5.1: names are one in any case of letters;
 -- RFC 9112, 6: the length of a body).
-use Rattle.std.specs.Prelude.{◌≡◌, ◌≤◌, ◌<◌, ◌-◌, ◌^◌, ◌||◌, ◌&&◌, ◌==◌, ℕ, Bool, true, false, List, [], ◌∷◌, length, min, map, if◌then◌else◌, nat_lt, codes}
+use Rattle.std.specs.Prelude.{◌≡◌, ◌≤◌, ◌<◌, ◌-◌, ◌^◌, ◌||◌, ◌&&◌, ◌==◌, ℕ, Bool, List, [], ◌∷◌, length, min, map, if◌then◌else◌, nat_lt, codes}
 use Rattle.std.specs.List.{list_any}
 use Rattle.std.specs.Str.{bytes_eq, all_ascii_digits}
 use Rattle.std.specs.Str.Parse.{digits_value}
@@ -56,12 +56,3 @@ abbrev pub IsNamed : List ℕ → List (List ℕ) → Named → Type 0
 IsNamed buf vs named.Absent = vs ≡ []
 IsNamed buf vs (named.Once s) = (vs ≡ span_bytes buf s ∷ []) × (s.start ≤ s.end) × (s.end ≤ length buf)
 IsNamed buf vs named.Several = 1 < length vs
-
--- whether there is none
-abbrev pub is_none : List (List ℕ) → Bool
-is_none [] = true
-is_none (value ∷ others) = false
-
--- whether the head is of HTTP/1.1 and says nothing of the connection
-abbrev pub is_bare : RequestHead → Bool
-is_bare h = (h.minor == 1) && is_none (values (codes "connection") (fields_of h))

@@ -1,10 +1,8 @@
 -- The one way to cut a stream.
 use Rattle.std.specs.Prelude.{◌≡◌, ◌⊎◌, ℕ, List, ◌++◌, All}
 use mathlib.Core.List.{IsPrefix}
-use Rattle.al_http.specs.declared.asking.Request.{Request}
-use Rattle.al_http.specs.Asks.{Asks}
-use Rattle.httparse.specs.Grammar.{RequestHead, ReadsRequest}
-use Rattle.al_http.specs.Requests.{Message, IsRequest, IsBuilt, IsUnfinished, spell, stream_of, IsRest}
+use Rattle.al_http.specs.declared.asking.SizeFault.{SizeFault}
+use Rattle.al_http.specs.Requests.{Message, IsCut, IsRequest, IsRefusedHead, IsUnfinished, spell, stream_of, IsRest}
 
 -- no request begins another
 abbrev pub OneRequest : Type 0
@@ -20,12 +18,8 @@ NothingLeft = (rest more : List ℕ) (r : Message) → IsRest rest → IsRequest
 
 -- so there is one cut
 abbrev pub OneCut : Type 0
-OneCut = (xs ys : List Message) (x y : List ℕ) → All IsRequest xs → All IsRequest ys → IsRest x → IsRest y → stream_of xs x ≡ stream_of ys y → (xs ≡ ys) × (x ≡ y)
+OneCut = (xs ys : List Message) (x y : List ℕ) → IsCut xs x → IsCut ys y → stream_of xs x ≡ stream_of ys y → (xs ≡ ys) × (x ≡ y)
 
--- a method and target ask for one thing
-abbrev pub OneMeaning : Type 0
-OneMeaning = (method target : List ℕ) (p q : Request) → Asks method target p → Asks method target q → p ≡ q
-
--- a rest that may still become a request begins with no head that is not built
+-- what may still become a request begins with no whole head whose body is refused
 abbrev pub UnfinishedIsNotRefused : Type 0
-UnfinishedIsNotRefused = (rest behind : List ℕ) (h : RequestHead) → IsUnfinished rest → ReadsRequest rest h behind → (IsBuilt h → ⊥) → ⊥
+UnfinishedIsNotRefused = (rest : List ℕ) (fault : SizeFault) → IsUnfinished rest → IsRefusedHead fault rest → ⊥

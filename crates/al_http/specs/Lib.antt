@@ -1,7 +1,6 @@
 pub mod Limits
-pub mod Answers
 pub mod Fields
-pub mod Asks
+pub mod Sizes
 pub mod Requests
 pub mod Heads
 pub mod Laws

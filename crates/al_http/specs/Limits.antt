@@ -1,5 +1,5 @@
 -- The limits of the requests on a connection.
-use Rattle.std.specs.Prelude.{◌+◌, ◌^◌, ℕ}
+use Rattle.std.specs.Prelude.{◌+◌, ℕ}
 use Rattle.al_block.specs.Block.{most_bytes}
 
 -- the most bytes of a head
@@ -17,7 +17,3 @@ most_body = most_bytes
 -- the most bytes of a head and its body
 abbrev pub most_message : ℕ
 most_message = most_head + most_body
-
--- the greatest round that is asked for
-abbrev pub most_round : ℕ
-most_round = 2 ^ 62

@@ -1,7 +1,7 @@
 // What the fields of a head say.
-ghost use Rattle.std.specs.Prelude.{◌≡◌, ◌≤◌, ◌<◌, ◌↔◌, ◌||◌, ◌&&◌, ◌==◌, ℕ, List, length, map, All, IsTrue, codes};
+ghost use Rattle.std.specs.Prelude.{◌≡◌, ◌≤◌, ◌<◌, ◌↔◌, ◌||◌, ◌==◌, ℕ, List, length, map, All, IsTrue, codes};
 ghost use Rattle.httparse.specs.Spans.{header_bytes, IsHeaderWithin};
-ghost use Rattle.al_http.specs.Fields.{is_same_text, values, size_of_text, size_of, says_close, is_none, IsNamed};
+ghost use Rattle.al_http.specs.Fields.{is_same_text, values, size_of_text, size_of, says_close, IsNamed};
 
 use crate::head::BodySize;
 use httparse::spans::{HeaderSpan, Span};
@@ -87,21 +87,4 @@ pub(crate) fn closes(version: u8, buf: &[u8], fields: &[HeaderSpan]) -> bool
     ensures { result ≡ ((version == 0) || says_close (map (header_bytes buf.now) fields.now)) }
 {
     version == 0 || says_close(buf, fields)
-}
-
-/// Whether it is HTTP/1.1 and has no field `connection`.
-pub(crate) fn is_bare(version: u8, buf: &[u8], fields: &[HeaderSpan]) -> bool
-    requires { All (IsHeaderWithin (length buf.now)) fields.now }
-    ensures { result ≡ ((version == 1) && is_none (values (codes "connection") (map (header_bytes buf.now) fields.now))) }
-{
-    version == 1 && is_absent(find(buf, fields, b"connection"))
-}
-
-fn is_absent(found: Named) -> bool
-    ensures { (buf : List ℕ) (vs : List (List ℕ)) → IsNamed buf vs found → result ≡ is_none vs }
-{
-    match found {
-        Named::Absent => true,
-        _ => false,
-    }
 }

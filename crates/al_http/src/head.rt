@@ -3,7 +3,7 @@ ghost use Rattle.std.specs.Prelude.{◌≡◌, ◌≤◌, ◌<◌, ℕ, List, le
 ghost use Rattle.al_http.specs.Heads.{IsRead};
 ghost use Rattle.al_http.specs.Limits.{most_head};
 
-use crate::fields::{closes, is_bare, size_of};
+use crate::fields::{closes, size_of};
 use al_base::Bytes;
 use al_block::MOST_BYTES;
 use http::Method;
@@ -43,8 +43,6 @@ pub struct Head {
     pub close: bool,
     /// How many bytes the head has.
     pub used: usize,
-    /// Whether it is HTTP/1.1 and has no field `connection`.
-    pub bare: bool,
 }
 
 /// What the bytes so far are.
@@ -91,7 +89,6 @@ fn read_front(alloc: Global, front: &[u8]) -> Result<HeadRead, AllocError>
                     body: size_of(front, fields),
                     close: closes(spans.version, front, fields),
                     used: spans.len,
-                    bare: is_bare(spans.version, front, fields),
                 }))
             }
             Err(MethodError::OutOfMemory) => Err(AllocError),

@@ -1,5 +1,5 @@
 // Laws of requests on a stream.
-ghost use Rattle.al_http.specs.Laws.{OneRequest, CutsAgree, NothingLeft, OneCut, OneMeaning, UnfinishedIsNotRefused};
+ghost use Rattle.al_http.specs.Laws.{OneRequest, CutsAgree, NothingLeft, OneCut, UnfinishedIsNotRefused};
 
 /// No request begins another.
 pub fn one_request()
@@ -21,12 +21,7 @@ pub fn one_cut()
     ensures { OneCut }
 {}
 
-/// A method and a target ask for one thing.
-pub fn one_meaning()
-    ensures { OneMeaning }
-{}
-
-/// A rest that is cut short begins with no head that is refused whole.
+/// What may still become a request begins with no whole head whose body is refused.
 pub fn unfinished_is_not_refused()
     ensures { UnfinishedIsNotRefused }
 {}

@@ -5,7 +5,7 @@ use Rattle.httparse.specs.Grammar.{IsToken}
 use Rattle.httparse.specs.Spans.{IsRequestOf, IsRequestWithin}
 use Rattle.al_http.specs.Limits.{most_fields}
 use Rattle.al_http.proofs.HeadLemmas.{head_at}
-use Rattle.al_http.proofs.TextLemmas.{method_token}
+use Rattle.al_http.proofs.MethodLemmas.{method_token}
 use Rattle.al_http.proofs.head.read_front.Goals as goal
 
 pub unreachable-requires : goal.unreachable-requires
@@ -25,4 +25,4 @@ returns-in_ok-of-in-Ok c =
     let at : IsRequestOf front headers spans = subst (λ r. IfComplete {E = Error} (Ok r) (IsRequestOf front headers)) c.in-Ok-Complete.field-0-is c.in-Ok-Complete.ensures.complete in
     let within : IsRequestWithin front headers spans = subst (λ r. IfComplete {E = Error} (Ok r) (IsRequestWithin front headers)) c.in-Ok-Complete.field-0-is c.in-Ok-Complete.ensures.within in
     let few : length headers ≤ most_fields = search rules in
-    (at.0, head_at front headers spans _ at.0 at.1 within c.requires few refl (search rules) (search rules) c.size_of.ensures c.closes.ensures c.is_bare.ensures)
+    (at.0, head_at front headers spans _ at.0 at.1 within c.requires few refl (search rules) (search rules) c.size_of.ensures c.closes.ensures)
