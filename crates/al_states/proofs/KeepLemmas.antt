@@ -1,11 +1,13 @@
 -- The kept states are those of the chain.
-use Rattle.std.proofs.Common.{length-append, ◌≡◌, ◌≤◌, ◌<◌, ◌-◌, ◌^◌, ℕ, zero, suc, List, [], ◌∷◌, ◌++◌, length, take, map, All, get_or, refl, sym, ap, ap₂, ◌∙◌, arith, subst, true, false, Result, Ok, Err, Option, Some, None, IfOk, IfSome, option_map}
+use Rattle.std.proofs.Common.{length-append, ◌≡◌, ◌≤◌, ◌<◌, ◌-◌, ◌^◌, ℕ, zero, suc, List, [], ◌∷◌, ◌++◌, length, take, map, All, get_or, refl, sym, ap, ap₂, ◌∙◌, arith, subst, Bool, true, false, if◌then◌else◌, Result, Ok, Err, Option, Some, None, IfOk, IfSome}
 use Rattle.std.proofs.lemmas.List.{map-append, length-map}
 use Rattle.std.proofs.lemmas.List.Elements.{All-push, recursion_from_All}
 use Rattle.std.specs.List.{AllByRecursion}
-use Rattle.std.specs.FinMap.{get, insert}
+use Rattle.std.specs.FinMap.{insert}
 use Rattle.std.specs.List.Sorted.{IsStrictlySortedBy}
-use Rattle.al_base.specs.declared.key.Key.{Key}
+use Rattle.std.specs.Option.{option_or}
+use Rattle.std.specs.Ordering.{nat_cmp}
+use Rattle.al_base.specs.declared.address.Address.{Address}
 use Rattle.al_base.specs.Keys.{address_cmp, key_cmp}
 use Rattle.al_msgpack.proofs.Canonical.{spells_only}
 use Rattle.al_msgpack.specs.declared.val.Val.TheVariants as values
@@ -15,19 +17,19 @@ use Rattle.al_block.specs.declared.header.Header.{Header}
 use Rattle.al_block.specs.Hashes.{header_hash_of}
 use Rattle.al_block.proofs.Within.{is_within}
 use Rattle.al_deltas.specs.declared.delta.RoundDelta.{RoundDelta}
-use Rattle.al_deltas.specs.Queue.{Queue, StoredMap, IsKeptDelta, after_delta, last_change, last_of, left_by, level_after, rows_after, stored_at, top, up_to}
-use Rattle.al_deltas.proofs.Queues.{last_pushed, rows_are, rows_then}
+use Rattle.al_deltas.specs.Queue.{Queue, StoredMap, IsKeptDelta, after_delta, creator_in, last_creator, last_of, level_after, rows_after, top, totals_after, up_to}
+use Rattle.al_deltas.proofs.Queues.{last_pushed, rows_then}
 use Rattle.al_rewards.specs.declared.totals.Totals.{Totals}
-use Rattle.al_rows.specs.declared.row.Row.{Row}
-use Rattle.al_rows.specs.declared.stored.Stored.{Stored}
 use Rattle.al_rows.specs.Finite.{or_below}
-use Rattle.al_rows.specs.Rows.{IsKept, bare, same_bytes}
+use Rattle.al_rows.specs.Rows.{IsKept, bare, creator_of, same_bytes}
 use Rattle.std.proofs.lemmas.Slice.Eq.{bytes_eq-Decides}
 use Rattle.al_txn.specs.declared.chain.Chain.{Chain}
 use Rattle.al_txn.specs.declared.txn.Item.{Item}
 use Rattle.al_txn.specs.declared.txn.Txn.{Txn}
 use Rattle.al_overlay.specs.Rules.{then_do}
+use Rattle.al_moves.specs.Created.{same_creator}
 use Rattle.al_moves.specs.Totals.{counts}
+use Rattle.al_moves.proofs.Follows.{same_is_true}
 use Rattle.al_eval.specs.Answers.{IsDeltaOf}
 use Rattle.al_eval.specs.Evaluated.{delta_in}
 use Rattle.al_tail.specs.Past.{entry_of}
@@ -38,7 +40,7 @@ use Rattle.al_eval.specs.declared.run.Evaluated.{Evaluated}
 use Rattle.al_tail.specs.declared.tail.Entry.{Entry}
 use Rattle.al_eval.specs.Steps.{Refusal}
 use Rattle.al_eval.specs.Snaps.{snap_of}
-use Rattle.al_eval.specs.State.{State, before_of, last_snap, step, replay, row_at, row_in, level_at, level_in}
+use Rattle.al_eval.specs.State.{State, before_of, counts_in, last_snap, step, replay}
 use Rattle.al_eval.proofs.Chains.{after_step}
 use Rattle.al_eval.proofs.Nexts.{rows_follow}
 use Rattle.al_eval.proofs.Onlines.{snaps_after}
@@ -50,7 +52,7 @@ use Rattle.al_states.proofs.MemoryLemmas.{remembers_more}
 use Rattle.al_states.specs.declared.keeping.KeptBlock.{KeptBlock}
 use Rattle.al_states.specs.declared.states.States.{States}
 use Rattle.al_states.specs.Held.{IsValid}
-use Rattle.al_states.specs.Keeping.{EvaluatesTo, Follows, IsEvaluated, IsKeeping, IsStates, Leads, Remembers, blocks_of, caught_up, held, origin_of}
+use Rattle.al_states.specs.Keeping.{EvaluatesTo, Follows, IsEvaluated, IsKeeping, IsStates, Leads, Remembers, StepsTo, blocks_of, caught_up, held, origin_of}
 use Rattle.al_states.specs.Replies.{IsBlockOf}
 
 -- replay goes on from where it came
@@ -62,39 +64,47 @@ pub follows_replay : (o last : State) (bs : List Block) (ds : List RoundDelta) �
 follows_replay o last [] [] e = ap Ok e
 follows_replay o last [] (d ∷ ds) f = absurd f
 follows_replay o last (b ∷ bs) [] f = absurd f
-follows_replay o last (b ∷ bs) (d ∷ ds) (n, stepped, rows, header, rest) = replay-then o n b bs stepped ∙ follows_replay n last bs ds rest
+follows_replay o last (b ∷ bs) (d ∷ ds) (n, x, rest) = replay-then o n b bs x.stepped ∙ follows_replay n last bs ds rest
 
 pub follows_length : (o last : State) (bs : List Block) (ds : List RoundDelta) → Follows o bs ds last → length ds ≡ length bs
 follows_length o last [] [] e = refl
 follows_length o last [] (d ∷ ds) f = absurd f
 follows_length o last (b ∷ bs) [] f = absurd f
-follows_length o last (b ∷ bs) (d ∷ ds) (n, stepped, rows, header, rest) = ap suc (follows_length n last bs ds rest)
+follows_length o last (b ∷ bs) (d ∷ ds) (n, x, rest) = ap suc (follows_length n last bs ds rest)
 
-follows_push : (o last next : State) (bs : List Block) (ds : List RoundDelta) (b : Block) (d : RoundDelta) → Follows o bs ds last → step last b ≡ Ok next → next.rows ≡ after_delta d last.rows → d.header ≡ b.header → Follows o (bs ++ b ∷ []) (ds ++ d ∷ []) next
-follows_push o last next [] [] b d e stepped rows header = (next, ap (λ s. step s b) e ∙ stepped, rows ∙ ap (λ (s : State). after_delta d s.rows) (sym e), header, refl)
-follows_push o last next [] (x ∷ ds) b d f stepped rows header = absurd f
-follows_push o last next (x ∷ bs) [] b d f stepped rows header = absurd f
-follows_push o last next (x ∷ bs) (y ∷ ds) b d (n, first, kept, same, rest) stepped rows header = (n, first, kept, same, follows_push n last next bs ds b d rest stepped rows header)
+follows_push : (o last next : State) (bs : List Block) (ds : List RoundDelta) (b : Block) (d : RoundDelta) → Follows o bs ds last → StepsTo last b d next → Follows o (bs ++ b ∷ []) (ds ++ d ∷ []) next
+follows_push o last next [] [] b d e y = (next, subst (λ s. StepsTo s b d next) (sym e) y, refl)
+follows_push o last next [] (x ∷ ds) b d f y = absurd f
+follows_push o last next (x ∷ bs) [] b d f y = absurd f
+follows_push o last next (x ∷ bs) (z ∷ ds) b d (n, first, rest) y = (n, first, follows_push n last next bs ds b d rest y)
 
--- the rows and the level after the first k blocks are those of the replay
-pub record IsAt (o : State) (bs : List Block) (ds : List RoundDelta) (k : ℕ) : Type 0 where
+-- what is known of the state after the first k blocks, over one of these totals
+pub record IsAt (o : State) (t : Totals) (bs : List Block) (ds : List RoundDelta) (k : ℕ) : Type 0 where
   pub state : State
   pub replayed : replay o (take k bs) ≡ Ok state
   pub rows_are : state.rows ≡ rows_after (take k ds) o.rows
   pub level_is : state.header.level ≡ level_after (take k ds) o.header.level
+  pub creators_are : (id : ℕ) → creator_of (bare state.rows) id ≡ or_below (last_creator id (take k ds)) (creator_of (bare o.rows) id)
+  pub totals_are : totals_after (take k ds) t ≡ counts_in state
 
-pub follows_at : (o last : State) (bs : List Block) (ds : List RoundDelta) (k : ℕ) → Follows o bs ds last → IsAt o bs ds k
-follows_at o last bs ds zero f = record { state = o; replayed = refl; rows_are = refl; level_is = refl }
-follows_at o last [] [] (suc k) f = record { state = o; replayed = refl; rows_are = refl; level_is = refl }
-follows_at o last [] (d ∷ ds) (suc k) f = absurd f
-follows_at o last (b ∷ bs) [] (suc k) f = absurd f
-follows_at o last (b ∷ bs) (d ∷ ds) (suc k) (n, stepped, rows, header, rest) =
-    let found = follows_at n last bs ds k rest in
+two_creators : (late here : Option (Option Address)) (below : Option Address) → or_below late (or_below here below) ≡ or_below (option_or late here) below
+two_creators None here below = refl
+two_creators (Some who) here below = refl
+
+pub follows_at : (o last : State) (t : Totals) (bs : List Block) (ds : List RoundDelta) (k : ℕ) → t ≡ counts_in o → Follows o bs ds last → IsAt o t bs ds k
+follows_at o last t bs ds zero e f = record { state = o; replayed = refl; rows_are = refl; level_is = refl; creators_are = λ id. refl; totals_are = e }
+follows_at o last t [] [] (suc k) e f = record { state = o; replayed = refl; rows_are = refl; level_is = refl; creators_are = λ id. refl; totals_are = e }
+follows_at o last t [] (d ∷ ds) (suc k) e f = absurd f
+follows_at o last t (b ∷ bs) [] (suc k) e f = absurd f
+follows_at o last t (b ∷ bs) (d ∷ ds) (suc k) e (n, x, rest) =
+    let found = follows_at n last d.totals bs ds k x.totals rest in
     record {
       state = found.state;
-      replayed = replay-then o n b (take k bs) stepped ∙ found.replayed;
-      rows_are = found.rows_are ∙ ap (rows_after (take k ds)) rows;
-      level_is = found.level_is ∙ ap (λ (h : Header). level_after (take k ds) h.level) ((after_step o n b stepped).0 ∙ sym header);
+      replayed = replay-then o n b (take k bs) x.stepped ∙ found.replayed;
+      rows_are = found.rows_are ∙ ap (rows_after (take k ds)) x.rows;
+      level_is = found.level_is ∙ ap (λ (h : Header). level_after (take k ds) h.level) ((after_step o n b x.stepped).0 ∙ sym x.is_of.header);
+      creators_are = λ id. found.creators_are id ∙ ap (or_below (last_creator id (take k ds))) (x.creators id) ∙ two_creators (last_creator id (take k ds)) (creator_in id d.creators) (creator_of (bare o.rows) id);
+      totals_are = found.totals_are;
     }
 
 -- ---- what is held
@@ -109,46 +119,15 @@ led_to_last s k = follows_replay (held s).origin (last_state s k) (held s).block
 pub states_valid : (s : States) → IsStates s → IsValid (held s).origin (held s).blocks
 states_valid s k = (last_state s k, led_to_last s k)
 
-pub states_at : (s : States) (n : ℕ) → IsStates s → IsAt (held s).origin (held s).blocks s.deltas.deltas n
-states_at s n k = follows_at (held s).origin (last_state s k) (held s).blocks s.deltas.deltas n k.follows
+pub states_at : (s : States) (n : ℕ) → IsStates s → IsAt (held s).origin s.deltas.totals (held s).blocks s.deltas.deltas n
+states_at s n k = follows_at (held s).origin (last_state s k) s.deltas.totals (held s).blocks s.deltas.deltas n k.counted k.follows
 
 -- the queue begins at round 0, and its last round is that of the last block
 pub top_is : (s : States) → IsStates s → top s.deltas ≡ length (held s).blocks
 top_is s k = (let long = follows_length (held s).origin (last_state s k) (held s).blocks s.deltas.deltas k.follows in let begins = k.begins in omega (arith, long, begins))
 
-first_rounds : (s : States) (n : ℕ) → IsStates s → up_to n s.deltas ≡ take n s.deltas.deltas
+pub first_rounds : (s : States) (n : ℕ) → IsStates s → up_to n s.deltas ≡ take n s.deltas.deltas
 first_rounds s n k = ap (λ b. take (n - b) s.deltas.deltas) k.begins ∙ ap (λ m. take m s.deltas.deltas) (let e : n - 0 ≡ n = omega arith in e)
-
--- the row after a round
-row_is : (s : States) (n : ℕ) (key : Key) → IsStates s → row_at (held s).origin (held s).blocks n key ≡ or_below (option_map left_by (last_change key (up_to n s.deltas))) (get s.base key)
-row_is s n key k =
-    let x = states_at s n k in
-    ap (row_in key) x.replayed
-    ∙ ap (λ m. get m key) x.rows_are
-    ∙ rows_are (take n s.deltas.deltas) s.base key
-    ∙ ap (λ ds. or_below (option_map left_by (last_change key ds)) (get s.base key)) (sym (first_rounds s n k))
-
-plain : (round : ℕ) (row : Option Row) → option_map (λ s. s.row) (stored_at round row) ≡ row
-plain round None = refl
-plain round (Some r) = refl
-
--- it is what its last change left
-pub row_changed : (s : States) (n : ℕ) (key : Key) (c : ℕ × Option Row) → IsStates s → Some c ≡ last_change key (up_to n s.deltas) → c.1 ≡ option_map (λ s. s.row) (row_at (held s).origin (held s).blocks n key)
-row_changed s n key c k found =
-    sym (plain c.0 c.1)
-    ∙ ap (λ o. option_map (λ (x : Stored). x.row) (or_below (option_map left_by o) (get s.base key))) found
-    ∙ sym (ap (option_map (λ (x : Stored). x.row)) (row_is s n key k))
-
--- or the row at the origin
-pub row_below : (s : States) (n : ℕ) (key : Key) → IsStates s → None ≡ last_change key (up_to n s.deltas) → option_map (λ s. s.row) (get s.base key) ≡ option_map (λ s. s.row) (row_at (held s).origin (held s).blocks n key)
-row_below s n key k found =
-    ap (λ o. option_map (λ (x : Stored). x.row) (or_below (option_map left_by o) (get s.base key))) found
-    ∙ sym (ap (option_map (λ (x : Stored). x.row)) (row_is s n key k))
-
-pub level_is : (s : States) (n : ℕ) → IsStates s → level_after (up_to n s.deltas) s.deltas.totals.level ≡ level_at (held s).origin (held s).blocks n
-level_is s n k =
-    let x = states_at s n k in
-    ap (λ ds. level_after ds s.deltas.totals.level) (first_rounds s n k) ∙ ap (level_after (take n s.deltas.deltas)) k.level ∙ sym (ap level_in x.replayed ∙ x.level_is)
 
 -- ---- the block of a round
 
@@ -197,23 +176,41 @@ pub before_is : (s : States) (k : IsStates s) → s.before ≡ before_of (last_s
 unfolding known
 before_is s k = ap₂ (known s.before) k.hash_is k.totals_are
 
+-- a creator that the block leaves as it was is the same
+same_is : (before now : Option Address) → same_creator before now ≡ true → now ≡ before
+same_is None None e = refl
+same_is None (Some who) e = absurd cc
+same_is (Some who) None e = absurd cc
+same_is (Some a) (Some b) e = ap Some (sym (same_is_true a b e))
+
+-- the creator of an id is what the block changed of it, or what it was
+creator_follows : (changed : Option (Option Address)) (before now : Option Address) → changed ≡ (if same_creator before now then None else Some now) → now ≡ or_below changed before
+creator_follows changed before now e = by_test (same_creator before now) refl ∙ ap (λ o. or_below o before) (sym e)
+  where
+    by_test : (b : Bool) → same_creator before now ≡ b → now ≡ or_below (if b then None else Some now) before
+    by_test true same = same_is before now same
+    by_test false other = refl
+
 -- what a step gives over the stored rows
 pub evaluates : {F : Type 0} (s : State) (b : Block) (r : Result Evaluated (EvalRefusal F)) → IsStep s b (delta_in r) → IfOk r (λ e. e.entries.items ≡ map (λ i. entry_of i.txn) b.items) → IfOk r (λ e. IsDeltaOf b.header e.delta)
     → IfOk r (λ e. IsStrictlySortedBy key_cmp (map (λ c. c.key) e.delta.changes)) → IfOk r (λ e. All (λ c. IfSome c.row (IsKept c.key)) e.delta.changes)
-    → IfOk r (λ e. IsStrictlySortedBy address_cmp (map (λ c. c.address) e.delta.online)) → AreInRange b → EvaluatesTo s b r
-evaluates s b (Ok e) h entries is_of ordered kept rising ranged = record {
+    → IfOk r (λ e. IsStrictlySortedBy nat_cmp (map (λ c. c.id) e.delta.creators)) → IfOk r (λ e. IsStrictlySortedBy address_cmp (map (λ c. c.address) e.delta.online)) → AreInRange b → EvaluatesTo s b r
+evaluates s b (Ok e) h entries is_of ordered kept creators rising ranged = record {
   next = h.0;
-  stepped = h.1.stepped;
-  rows = rows_follow s h.0 b e.delta is_of h.1;
-  totals = h.1.totals;
+  steps = record {
+    stepped = h.1.stepped;
+    rows = rows_follow s h.0 b e.delta is_of h.1;
+    creators = λ id. creator_follows (creator_in id e.delta.creators) (creator_of (bare s.rows) id) (creator_of (bare h.0.rows) id) (h.1.creators.each id);
+    totals = h.1.totals;
+    is_of = is_of;
+  };
   online = h.1.online;
   once = once_where_rising e.delta.online rising;
-  is_of = is_of;
-  kept = record { ordered = ordered; kept = kept };
+  kept = record { ordered = ordered; kept = kept; creators = creators };
   entries = entries;
   ranged = ranged;
 }
-evaluates s b (Err e) h entries is_of ordered kept rising ranged = h
+evaluates s b (Err e) h entries is_of ordered kept creators rising ranged = h
 
 -- ---- the newest rows
 
@@ -234,7 +231,7 @@ kept_newest chain first base newest newest2 deltas kept header hash totals tail 
   snaps = k.snaps;
   follows = k.follows;
   begins = k.begins;
-  level = k.level;
+  counted = k.counted;
   changes = k.changes;
   newest_is = same ∙ k.newest_is;
   hash_is = k.hash_is;
@@ -273,37 +270,36 @@ more chain first base newest deltas kept header hash totals tail memory memory2 
     let o = origin_of chain first base in
     let last : State = record { chain = chain; header = header; rows = rows_after deltas.deltas base; past = k.past; snaps = k.snaps } in
     let same : l.last ≡ last = ok_is l.last last (sym l.replayed ∙ follows_replay o last (blocks_of kept) deltas.deltas k.follows) in
-    let stepped : step last b ≡ Ok x.next = subst (λ s. step s b ≡ Ok x.next) same x.stepped in
-    let put : x.next.rows ≡ after_delta d (rows_after deltas.deltas base) = x.rows ∙ ap (λ (s : State). after_delta d s.rows) same in
-    let then : rows_after (deltas.deltas ++ d ∷ []) base ≡ after_delta d (rows_after deltas.deltas base) = rows_then deltas.deltas (d ∷ []) base in
-    let rows : x.next.rows ≡ rows_after (deltas.deltas ++ d ∷ []) base = put ∙ sym then in
-    let after = after_step last x.next b stepped in
-    let head : x.next.header ≡ d.header = after.0 ∙ sym x.is_of.header in
+    let y : StepsTo last b d x.next = subst (λ s. StepsTo s b d x.next) same x.steps in
+    let put_on : rows_after (deltas.deltas ++ d ∷ []) base ≡ after_delta d (rows_after deltas.deltas base) = rows_then deltas.deltas (d ∷ []) base in
+    let rows : x.next.rows ≡ rows_after (deltas.deltas ++ d ∷ []) base = y.rows ∙ sym put_on in
+    let after = after_step last x.next b y.stepped in
+    let head : x.next.header ≡ d.header = after.0 ∙ sym y.is_of.header in
     let past = k.past ++ map (λ i. i.txn) b.items in
     let snap : Snap = snap_of d.header.level (bare (rows_after (deltas.deltas ++ d ∷ []) base)) in
     let snap_is : last_snap x.next ≡ snap = ap₂ (λ (h : Header) (m : StoredMap). snap_of h.level (bare m)) head rows in
     let snaps : Snaps = insert k.snaps (suc (length (blocks_of kept))) snap in
-    let kept_snaps : x.next.snaps ≡ snaps = snaps_after last x.next b stepped ∙ ap₂ (insert k.snaps) round snap_is in
+    let kept_snaps : x.next.snaps ≡ snaps = snaps_after last x.next b y.stepped ∙ ap₂ (insert k.snaps) round snap_is in
     let goes_on : snap ≡ next_snap d.header.level d.online (last_snap last) =
     sym snap_is ∙ x.online ∙ ap (λ (h : Header). next_snap h.level d.online (last_snap l.last)) head ∙ ap (λ (s : State). next_snap d.header.level d.online (last_snap s)) same in
-    let remembered = remembers_more memory memory2 k.snaps (length (blocks_of kept)) (last_snap last) snap d.header.level d.online k.online grown (at ∙ x.is_of.round ∙ round) goes_on in
+    let remembered = remembers_more memory memory2 k.snaps (length (blocks_of kept)) (last_snap last) snap d.header.level d.online k.online grown (at ∙ y.is_of.round ∙ round) goes_on in
     let now = whole x.next chain d.header (rows_after (deltas.deltas ++ d ∷ []) base) past snaps after.1 head rows after.2 kept_snaps in
     let blocks : blocks_of (kept ++ next ∷ []) ≡ blocks_of kept ++ b ∷ [] = map-append (λ (y : KeptBlock). y.block) kept (next ∷ []) in
     let long : length (blocks_of (kept ++ next ∷ [])) ≡ suc (length (blocks_of kept)) = ap length blocks ∙ (let one = length-append (blocks_of kept) (b ∷ []) in omega (arith, one)) in
-    let led : Follows o (blocks_of kept ++ b ∷ []) (deltas.deltas ++ d ∷ []) x.next = follows_push o last x.next (blocks_of kept) deltas.deltas b d k.follows stepped put x.is_of.header in
+    let led : Follows o (blocks_of kept ++ b ∷ []) (deltas.deltas ++ d ∷ []) x.next = follows_push o last x.next (blocks_of kept) deltas.deltas b d k.follows y in
     record {
       past = past;
       snaps = snaps;
       follows = subst (λ (bs : List Block). Follows o bs (deltas.deltas ++ d ∷ []) (record { chain = chain; header = d.header; rows = rows_after (deltas.deltas ++ d ∷ []) base; past = past; snaps = snaps })) (sym blocks) (subst (Follows o (blocks_of kept ++ b ∷ []) (deltas.deltas ++ d ∷ [])) now led);
       begins = k.begins;
-      level = k.level;
+      counted = k.counted;
       changes = All-push IsKeptDelta deltas.deltas d k.changes x.kept;
-      newest_is = ap (λ y. caught_up y newest) (last_pushed deltas.deltas d) ∙ ap (after_delta d) newest_is ∙ sym then;
-      hash_is = x.is_of.hash ∙ ap header_hash_of (sym x.is_of.header);
-      few = subst (λ (h : Header). h.counter ≤ 2 ^ 62) (sym x.is_of.header) (is_within next.bytes.items b spells).counter;
+      newest_is = ap (λ y. caught_up y newest) (last_pushed deltas.deltas d) ∙ ap (after_delta d) newest_is ∙ sym put_on;
+      hash_is = y.is_of.hash ∙ ap header_hash_of (sym y.is_of.header);
+      few = subst (λ (h : Header). h.counter ≤ 2 ^ 62) (sym y.is_of.header) (is_within next.bytes.items b spells).counter;
       tail_is = ap (λ es. es ++ map (λ i. entry_of i.txn) b.items) k.tail_is ∙ ap (λ es. map entry_of k.past ++ es) (mapped b.items) ∙ sym (map-append entry_of k.past (map (λ i. i.txn) b.items));
       sound = k.sound;
-      totals_are = x.totals ∙ ap₂ (λ (h : Header) (m : StoredMap). counts h.level (bare m)) head rows;
+      totals_are = y.totals ∙ ap₂ (λ (h : Header) (m : StoredMap). counts h.level (bare m)) head rows;
       online = subst (λ n. Remembers memory2 snaps n snap) (sym long) remembered;
       spelled = All-push (λ (y : KeptBlock). IsBlock y.bytes.items y.block) kept next k.spelled spells;
       ranged = All-push (λ (y : KeptBlock). AreInRange y.block) kept next k.ranged x.ranged;

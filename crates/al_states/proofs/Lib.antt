@@ -3,3 +3,4 @@ pub mod KeepLemmas
 pub mod OpenLemmas
 pub mod ToldLemmas
 pub mod SoundLemmas
+pub mod LookLemmas

@@ -12,7 +12,6 @@ use Rattle.al_states.specs.Opening.{Opens, IsRefusedGenesis, fault_of}
 use Rattle.al_txn.specs.declared.chain.Chain.{Chain}
 use Rattle.al_block.specs.declared.header.Header.{Header}
 use Rattle.al_block.specs.Hashes.{header_hash_of}
-use Rattle.al_moves.specs.Totals.{counts}
 use Rattle.al_genesis.specs.declared.genesis.Genesis.{Genesis}
 use Rattle.al_genesis.specs.declared.genesis.GenesisFault.{GenesisFault}
 use Rattle.al_genesis.specs.declared.genesis.GenesisFault.TheVariants as faults
@@ -26,10 +25,6 @@ use Rattle.al_rewards.specs.declared.totals.Totals.{Totals}
 use Rattle.al_states.specs.Keeping.{IsKeeping, origin_of, blocks_of}
 use Rattle.al_states.proofs.MemoryLemmas.{remembers_first}
 
-level_counted : (s : State) (totals : Totals) → totals ≡ counts_in s → totals.level ≡ s.header.level
-unfolding counts
-level_counted s totals e = ap (λ (t : Totals). t.level) e
-
 pub kept_first : (chain : Chain) (first header : Header) (rows : StoredMap) (hash : List ℕ) (totals : Totals) (memory : Memory) → first ≡ header → hash ≡ header_hash_of first → Sound (origin_of chain header rows) → header.counter ≤ 2 ^ 62 → totals ≡ counts_in (origin_of chain header rows) → memory ≡ record { base = 0; snaps = snap_of header.level (bare rows) ∷ [] }
     → IsKeeping chain first rows rows (record { base = 0; deltas = []; totals = totals }) [] header hash totals [] memory
 kept_first chain first header rows hash totals memory e h sound few counted known = record {
@@ -37,7 +32,7 @@ kept_first chain first header rows hash totals memory e h sound few counted know
   snaps = insert empty 0 (snap_of header.level (bare rows));
   follows = ap (λ (x : Header). origin_of chain x rows) e;
   begins = refl;
-  level = level_counted (origin_of chain header rows) totals counted ∙ ap (λ (x : Header). x.level) (sym e);
+  counted = counted ∙ ap (λ (x : Header). counts_in (origin_of chain x rows)) (sym e);
   changes = All-nil IsKeptDelta;
   newest_is = refl;
   hash_is = h ∙ ap header_hash_of e;

@@ -34,24 +34,38 @@ follows_consistent : (o last : State) (bs : List Block) (ds : List RoundDelta) �
 follows_consistent o last [] [] ranged h e = subst Consistent e h
 follows_consistent o last [] (d ∷ ds) ranged h f = absurd f
 follows_consistent o last (b ∷ bs) [] ranged h f = absurd f
-follows_consistent o last (b ∷ bs) (d ∷ ds) ranged h (n, stepped, rows, head, rest) = follows_consistent n last bs ds ranged.1 (step_consistent o n b ranged.0 h stepped) rest
+follows_consistent o last (b ∷ bs) (d ∷ ds) ranged h (n, x, rest) = follows_consistent n last bs ds ranged.1 (step_consistent o n b ranged.0 h x.stepped) rest
 
 -- the state that the next step begins with is consistent
 pub last_consistent : (s : States) (k : IsStates s) → Consistent (last_state s k)
 last_consistent s k = follows_consistent (held s).origin (last_state s k) (held s).blocks s.deltas.deltas (held_ranged s k) (consistent_of (held s).origin k.sound) k.follows
 
--- ---- where each state is apart
-
 then_replayed : (due : Result State Refusal) (bs : List Block) (t : State) → then_do due (λ s. replay s bs) ≡ Ok t → (s : State) × (due ≡ Ok s) × (replay s bs ≡ Ok t)
 then_replayed (Ok s) bs t e = (s, refl, e)
 then_replayed (Err r) bs t e = absurd (let x : ◌≡◌ {A = Result State Refusal} (Err r) (Ok t) = e in cc)
+
+ok_same : (s t : State) → ◌≡◌ {A = Result State Refusal} (Ok s) (Ok t) → s ≡ t
+ok_same s t e = cc
+
+replay_consistent : (s t : State) (bs : List Block) (n : ℕ) → AllInRange bs → Consistent s → replay s (take n bs) ≡ Ok t → Consistent t
+replay_consistent s t bs zero ranged h e = subst Consistent (ok_same s t e) h
+replay_consistent s t [] (suc n) ranged h e = subst Consistent (ok_same s t e) h
+replay_consistent s t (b ∷ bs) (suc n) ranged h e =
+    let m = then_replayed (step s b) (take n bs) t e in
+    replay_consistent m.0 t bs n ranged.1 (step_consistent s m.0 b ranged.0 h m.1) m.2
+
+-- the state after each of the blocks is consistent
+pub at_consistent : (s : States) (n : ℕ) (t : State) → IsStates s → replay (held s).origin (take n (held s).blocks) ≡ Ok t → Consistent t
+at_consistent s n t k e = replay_consistent (held s).origin t (held s).blocks n (held_ranged s k) (consistent_of (held s).origin k.sound) e
+
+-- ---- where each state is apart
 
 -- a sound state with the money of another
 abbrev IsLikeFrom : State → State → Type 0
 IsLikeFrom s t = Sound t × (money_in t ≡ money_in s)
 
 same_like : (s t : State) → Sound s → ◌≡◌ {A = Result State Refusal} (Ok s) (Ok t) → IsLikeFrom s t
-same_like s t h e = let same : s ≡ t = cc in (subst Sound same h, ap money_in (sym same))
+same_like s t h e = (subst Sound (ok_same s t e) h, ap money_in (sym (ok_same s t e)))
 
 -- the first n blocks keep a state sound, and its money
 replay_keeps : (s t : State) (bs : List Block) (n : ℕ) → AllInRange bs → AreApart (record { origin = s; blocks = bs }) → Sound s → replay s (take n bs) ≡ Ok t → IsLikeFrom s t

@@ -16,10 +16,10 @@ use Rattle.al_eval.specs.declared.before.EvalRefusal.TheVariants as evals
 use Rattle.al_eval.specs.Refusals.{Verdict, refused, failed, no_memory, refusal_of}
 use Rattle.al_eval.specs.Sound.{MayCome}
 use Rattle.al_eval.specs.State.{State, replay, step}
-use Rattle.al_http.specs.declared.answer.Answer.{Answer}
-use Rattle.al_http.specs.declared.answer.Answer.TheVariants as answers
-use Rattle.al_http.specs.declared.answer.ErrorName.TheVariants as errors
-use Rattle.al_http.specs.Answers.{nothing, memory_answer}
+use Rattle.al_answers.specs.declared.answer.Answer.{Answer}
+use Rattle.al_answers.specs.declared.answer.Answer.TheVariants as answers
+use Rattle.al_answers.specs.declared.answer.ErrorName.TheVariants as errors
+use Rattle.al_answers.specs.Answers.{nothing, memory_answer}
 use Rattle.al_states.specs.declared.accepting.Accepted.{Accepted}
 use Rattle.al_states.specs.declared.accepting.AcceptRefusal.{AcceptRefusal}
 use Rattle.al_states.specs.declared.accepting.AcceptRefusal.TheVariants as refusals

@@ -12,8 +12,9 @@ use Rattle.al_block.specs.declared.block.Block.{Block}
 use Rattle.al_block.specs.Block.{IsBlock}
 use Rattle.al_block.specs.Hashes.{header_hash_of}
 use Rattle.al_deltas.specs.declared.delta.RoundDelta.{RoundDelta}
-use Rattle.al_deltas.specs.Queue.{Queue, StoredMap, IsKeptDelta, after_delta, last_of, rows_after}
-use Rattle.al_rows.specs.Rows.{bare}
+use Rattle.al_deltas.specs.Queue.{Queue, StoredMap, IsKeptDelta, after_delta, creator_in, last_of, rows_after}
+use Rattle.al_rows.specs.Finite.{or_below}
+use Rattle.al_rows.specs.Rows.{bare, creator_of}
 use Rattle.al_rewards.specs.declared.totals.Totals.{Totals}
 use Rattle.al_moves.specs.Totals.{counts}
 use Rattle.al_online.specs.Laws.{Shows, Snaps}
@@ -41,10 +42,18 @@ origin_of chain header rows = first_state chain header rows
 abbrev pub blocks_of : List KeptBlock → List Block
 blocks_of kept = map (λ k. k.block) kept
 
--- each block leads from one state to the next, whose rows are those before with what the block changes put over them
+-- a block leads from one state to the next, whose rows and creators are those before with what the block changes put over them
+pub record StepsTo (s : State) (b : Block) (d : RoundDelta) (n : State) : Type 0 where
+  pub stepped : step s b ≡ Ok n
+  pub rows : n.rows ≡ after_delta d s.rows
+  pub creators : (id : ℕ) → creator_of (bare n.rows) id ≡ or_below (creator_in id d.creators) (creator_of (bare s.rows) id)
+  pub totals : d.totals ≡ counts_in n
+  pub is_of : IsDeltaOf b.header d
+
+-- each block leads from one state to the next
 abbrev pub Follows : State → List Block → List RoundDelta → State → Type 0
 Follows s [] [] last = s ≡ last
-Follows s (b ∷ bs) (d ∷ ds) last = (n : State) × (step s b ≡ Ok n) × (n.rows ≡ after_delta d s.rows) × (d.header ≡ b.header) × Follows n bs ds last
+Follows s (b ∷ bs) (d ∷ ds) last = (n : State) × StepsTo s b d n × Follows n bs ds last
 Follows s bs ds last = ⊥
 
 -- rows with what a block changes put over them, if there is one
@@ -65,7 +74,7 @@ pub record IsKeeping (chain : Chain) (first : Header) (base newest : StoredMap) 
   pub snaps : Snaps
   pub follows : Follows (origin_of chain first base) (blocks_of kept) deltas.deltas (record { chain = chain; header = header; rows = rows_after deltas.deltas base; past = past; snaps = snaps })
   pub begins : deltas.base ≡ 0
-  pub level : deltas.totals.level ≡ first.level
+  pub counted : deltas.totals ≡ counts_in (origin_of chain first base)
   pub changes : All IsKeptDelta deltas.deltas
   pub newest_is : caught_up (last_of deltas.deltas) newest ≡ rows_after deltas.deltas base
   pub hash_is : hash ≡ header_hash_of header
@@ -92,12 +101,9 @@ IsNewest s = s.newest ≡ rows_after s.deltas.deltas s.base
 -- a step from a state gives what the block changes, and what is kept of its transactions
 pub record IsEvaluated (s : State) (b : Block) (e : Evaluated) : Type 0 where
   pub next : State
-  pub stepped : step s b ≡ Ok next
-  pub rows : next.rows ≡ after_delta e.delta s.rows
-  pub totals : e.delta.totals ≡ counts_in next
+  pub steps : StepsTo s b e.delta next
   pub online : last_snap next ≡ next_snap next.header.level e.delta.online (last_snap s)
   pub once : IsEachOnce e.delta.online
-  pub is_of : IsDeltaOf b.header e.delta
   pub kept : IsKeptDelta e.delta
   pub entries : e.entries.items ≡ map (λ i. entry_of i.txn) b.items
   pub ranged : AreInRange b

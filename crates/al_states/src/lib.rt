@@ -2,15 +2,20 @@
 #![tactic(auto)]
 
 mod accepting;
+mod answering;
 mod keeping;
 mod looking;
+mod lookups;
 mod opening;
 mod replies;
 mod states;
 mod told;
 
 pub use accepting::{AcceptRefusal, Accepted};
-pub use looking::{LookRefusal, RowAnswer};
+pub use looking::{
+    CirculationAnswer, CreatorAnswer, LookRefusal, RowAnswer, StakeAnswer, StatusAnswer,
+    SupplyAnswer,
+};
 pub use opening::OpenFault;
 pub use states::States;
 pub use told::Told;

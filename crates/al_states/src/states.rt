@@ -1,56 +1,48 @@
 //! The states of the ledger, one after each block.
-ghost use Rattle.std.specs.Prelude.{◌≡◌, ◌≤◌, ◌<◌, ◌^◌, ℕ, suc, [], ◌∷◌, ◌++◌, length, take, All, Ok, option_map, IfOk, IfSome, OnOk, OnErr};
-ghost use Rattle.std.specs.Option.{option_copied};
+ghost use Rattle.std.specs.Prelude.{◌≡◌, ◌≤◌, ◌<◌, ◌^◌, ℕ, suc, [], ◌∷◌, ◌++◌, length, take, All, Ok, IfOk, OnOk, OnErr};
 ghost use Rattle.al_block.specs.Block.{IsBlock};
 ghost use Rattle.al_eval.specs.Sound.{Sound};
 ghost use Rattle.al_online.specs.Memory.{IsEachOnce};
 ghost use Rattle.al_eval.specs.Start.{start, start_online, start_rows, start_totals};
-ghost use Rattle.al_eval.specs.State.{State, counts_in, replay, row_at};
-ghost use Rattle.al_http.specs.Answers.{IsSound};
+ghost use Rattle.al_eval.specs.State.{State, counts_in, replay};
 ghost use Rattle.al_states.specs.Accepting.{Accepts};
 ghost use Rattle.al_states.specs.Held.{AreApart, IsValid};
 ghost use Rattle.al_states.specs.Keeping.{IsNewest, IsStates, Leads, held};
-ghost use Rattle.al_states.specs.Looking.{Looks};
 ghost use Rattle.al_states.specs.Opening.{Opens};
-ghost use Rattle.al_states.specs.Replies.{IsAnswered, looked};
 ghost use Rattle.al_rewards.specs.Totals.{AreTotals};
-ghost use Rattle.al_rows.specs.Rows.{AccountInRange, IsKept};
+ghost use Rattle.al_rows.specs.Rows.{AccountInRange};
 
 use crate::accepting::{undecodable, unfit};
 use crate::keeping::{KeptBlock, catch_up, evaluate, keep};
 use crate::opening::fault_of;
-use crate::replies::{accept_answer, look_answer};
-use crate::{AcceptRefusal, Accepted, LookRefusal, OpenFault, RowAnswer, Told};
-use al_base::{Address, Key};
+use crate::{AcceptRefusal, Accepted, OpenFault};
 use al_block::{Block, Header, decode_block, header_hash};
 use al_deltas::{Deltas, KeptRows};
 use al_eval::{
     Before, Evaluated, Genesis, GenesisRow, Tail, start_online, start_rows, start_totals,
 };
-use al_http::{Answer, Request};
 use al_online::OnlineMemory;
-use al_rows::Row;
 use std::alloc::{AllocError, Global};
 
 /// The states of the ledger: the one that it began with, and the one after each block.
 #[derive(Drop)]
 pub struct States {
-    alloc: Global,
+    pub(crate) alloc: Global,
     // The header at the origin.
     first: Header,
     // The rows at the origin.
-    base: KeptRows,
+    pub(crate) base: KeptRows,
     // What each block changes.
-    deltas: Deltas,
+    pub(crate) deltas: Deltas,
     // The rows after the last block, which may lack what it changes.
     newest: KeptRows,
     // The blocks.
     kept: Vec<KeptBlock>,
     // What the next step begins with, and the transactions of the blocks.
-    before: Before,
+    pub(crate) before: Before,
     tail: Tail,
     // What consensus may ask of each round.
-    online: OnlineMemory,
+    pub(crate) online: OnlineMemory,
 }
 
 impl States {
@@ -118,83 +110,6 @@ impl States {
         ensures sound { AreApart (held self.now) → (n : ℕ) (s : State) → replay (held self.now).origin (take n (held self.now).blocks) ≡ Ok s → Sound s }
     {
         self.kept.len() as u64
-    }
-
-    /// The row under a key after a round, no round being the last one. Errors: `TooNew` exactly
-    /// where the round is above the front.
-    pub fn row(&self, key: &Key, round: Option<u64>) -> Result<RowAnswer<'_>, LookRefusal>
-        requires { IsStates self.now }
-        ensures looks { Looks (held self.now) key.now round result }
-        ensures kept { IfOk result (λ a. IfSome (option_copied a.row) (IsKept key.now)) }
-    {
-        let front = self.front();
-        let round = round.unwrap_or(front);
-        if front < round {
-            return Err(LookRefusal::TooNew { front });
-        }
-        Ok(RowAnswer {
-            front,
-            round,
-            level: self.deltas.header_level(round),
-            row: self.row_after(key, round),
-        })
-    }
-
-    // The row under a key after a round that is at most the front.
-    fn row_after(&self, key: &Key, round: u64) -> Option<&Row>
-        requires states { IsStates self.now }
-        requires within { round ≤ length (held self.now).blocks }
-        ensures row { option_copied result ≡ option_map (λ s. s.row) (row_at (held self.now).origin (held self.now).blocks round key.now) }
-        ensures kept { IfSome (option_copied result) (IsKept key.now) }
-    {
-        match self.deltas.find(key, round) {
-            Some((_, row)) => row.as_ref(),
-            None => match self.base.get(key) {
-                Some(stored) => Some(&stored.row),
-                None => None,
-            },
-        }
-    }
-
-    /// The account after a round, no round being the last one, or why it is not shown.
-    pub fn look(&self, who: &Address, round: Option<u64>) -> Answer
-        requires { IsStates self.now }
-        ensures sound { IsSound result }
-        ensures looked { result ≡ looked (held self.now).origin (held self.now).blocks who.now round }
-    {
-        look_answer(self.row(&Key::Account(*who), round))
-    }
-
-    /// Answers a request, whose body has these bytes. A posted block that is accepted is held from
-    /// then on.
-    pub fn answer(&mut self, ask: &Request, body: &[u8]) -> Told
-        requires states { IsStates self.old }
-        requires short { length body.now < 2 ^ 31 }
-        ensures states { IsStates self.new }
-        ensures sound { IsSound result.answer }
-        ensures answered { IsAnswered (held self.old) (held self.new) ask.now body.now result }
-    {
-        match ask {
-            Request::Account { address, round } => {
-                let answer = self.look(address, *round);
-                self.told(answer)
-            }
-            Request::Post => {
-                let answer = accept_answer(self.accept(body));
-                self.told(answer)
-            }
-        }
-    }
-
-    // An answer at the front.
-    fn told(&self, answer: Answer) -> Told
-        requires { IsStates self.now }
-        ensures { result ≡ record { front = length (held self.now).blocks; answer = answer } }
-    {
-        Told {
-            front: self.front(),
-            answer,
-        }
     }
 
     /// Accepts a block that these bytes spell, where it is the next one and follows the rules. It
@@ -346,11 +261,13 @@ impl States {
     }
 }
 
-// The rows of a genesis.
+// The rows of a genesis, with the index of their creators.
 fn first_rows(alloc: Global, accounts: &[GenesisRow]) -> Result<KeptRows, AllocError>
     requires { All (λ a. AccountInRange a.row) accounts.now }
     ensures { IfOk result (λ rows. rows ≡ start_rows accounts.now) }
 {
     let rows = start_rows(alloc, accounts)?;
-    Ok(KeptRows::new(alloc, rows))
+    let mut kept = KeptRows::new(alloc, rows);
+    kept.index()?;
+    Ok(kept)
 }

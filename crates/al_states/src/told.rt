@@ -1,5 +1,5 @@
 //! An answer with the front at which it was given.
-use al_http::Answer;
+use al_answers::Answer;
 
 /// An answer, and the front at which it was given.
 #[derive(Debug, Drop)]

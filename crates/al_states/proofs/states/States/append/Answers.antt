@@ -6,13 +6,13 @@ use Rattle.al_states.proofs.SoundLemmas.{round_within}
 use Rattle.al_states.proofs.states.States.append.Goals as goal
 
 pub keep-requires-clause-round : goal.keep-requires-clause-round
-keep-requires-clause-round c = c.requires.leads.evaluated.is_of.round ∙ c.requires.next ∙ ap suc (sym (top_is c.args.self.now c.requires.states))
+keep-requires-clause-round c = c.requires.leads.evaluated.steps.is_of.round ∙ c.requires.next ∙ ap suc (sym (top_is c.args.self.now c.requires.states))
 
 pub keep-requires-clause-most : goal.keep-requires-clause-most
-keep-requires-clause-most c = subst (λ n. n ≤ 2 ^ 62) (sym c.requires.leads.evaluated.is_of.round) (round_within c.args.bytes.now c.args.block c.requires.spelled)
+keep-requires-clause-most c = subst (λ n. n ≤ 2 ^ 62) (sym c.requires.leads.evaluated.steps.is_of.round) (round_within c.args.bytes.now c.args.block c.requires.spelled)
 
 pub keep-requires-clause-follows : goal.keep-requires-clause-follows
-keep-requires-clause-follows c = c.requires.leads.evaluated.is_of.round ∙ c.requires.next ∙ ap suc (sym c.requires.states.online.top_is)
+keep-requires-clause-follows c = c.requires.leads.evaluated.steps.is_of.round ∙ c.requires.next ∙ ap suc (sym c.requires.states.online.top_is)
 
 pub returns-clause-states : goal.returns-clause-states
 returns-clause-states c =
