@@ -12,10 +12,11 @@ use Rattle.al_block.specs.Hashes.{header_hash_of}
 use Rattle.al_block.proofs.Meaning.{once, only_from}
 use Rattle.al_eval.specs.State.{State}
 use Rattle.al_eval.specs.Steps.{Refusal}
-use Rattle.al_http.specs.declared.answer.Answer.{Answer}
-use Rattle.al_http.specs.declared.asking.Request.{Request}
-use Rattle.al_http.specs.declared.asking.Request.TheVariants as asks
-use Rattle.al_states.specs.Replies.{Replies, Posts, IsBlockOf, IsOutside, IsRepeated, IsJudged, undecodable, fork, judged}
+use Rattle.al_answers.specs.declared.answer.Answer.{Answer}
+use Rattle.al_routes.specs.declared.request.FormFault.{FormFault}
+use Rattle.al_routes.specs.declared.request.Request.{Request}
+use Rattle.al_routes.specs.declared.request.Request.TheVariants as asks
+use Rattle.al_states.specs.Replies.{Replies, RepliesTo, Posts, IsBlockOf, IsOutside, IsRepeated, IsJudged, undecodable, fork, judged}
 
 abbrev read_err : BlockFault → Result Block BlockFault
 read_err f = Err f
@@ -97,6 +98,18 @@ posts_one o blocks body a b fit (inl p) (inr q) = absurd (ok_err q.0 p.0 (fault_
 posts_one o blocks body a b fit (inr p) (inl q) = absurd (ok_err p.0 q.0 (fault_one body fit q.0 (Ok p.0) q.1 p.1))
 posts_one o blocks body a b fit (inr p) (inr q) = placed_one o blocks body p.0 a b p.2 (subst (λ (x : Block). IsPlaced o blocks body x b) (once body q.0 p.0 q.1 p.1) q.2)
 
-pub one_reply : (o : State) (blocks : List Block) (ask : Request) (body : List ℕ) (a b : Answer) → AreBytes body → length body < 2 ^ 31 → Replies o blocks ask body a → Replies o blocks ask body b → a ≡ b
-one_reply o blocks (asks.Account who round) body a b bytes short p q = p ∙ sym q
-one_reply o blocks asks.Post body a b bytes short p q = posts_one o blocks body a b (record { bytes = bytes; short = omega (arith, short) }) p q
+asked_one : (o : State) (blocks : List Block) (ask : Request) (body : List ℕ) (a b : Answer) → Fit limit body → RepliesTo o blocks ask body a → RepliesTo o blocks ask body b → a ≡ b
+asked_one o blocks asks.Post body a b fit p q = posts_one o blocks body a b fit p q
+asked_one o blocks (asks.Account who round) body a b fit p q = p ∙ sym q
+asked_one o blocks (asks.Asset who id round) body a b fit p q = p ∙ sym q
+asked_one o blocks (asks.App who id round) body a b fit p q = p ∙ sym q
+asked_one o blocks (asks.BoxOf app name round) body a b fit p q = p ∙ sym q
+asked_one o blocks (asks.Creator id round) body a b fit p q = p ∙ sym q
+asked_one o blocks (asks.Online who round) body a b fit p q = p ∙ sym q
+asked_one o blocks (asks.Circulation round vote) body a b fit p q = p ∙ sym q
+asked_one o blocks (asks.Supply round) body a b fit p q = p ∙ sym q
+asked_one o blocks asks.Standing body a b fit p q = p ∙ sym q
+
+pub one_reply : (o : State) (blocks : List Block) (asked : Result Request FormFault) (body : List ℕ) (a b : Answer) → AreBytes body → length body < 2 ^ 31 → Replies o blocks asked body a → Replies o blocks asked body b → a ≡ b
+one_reply o blocks (Ok ask) body a b bytes short p q = asked_one o blocks ask body a b (record { bytes = bytes; short = omega (arith, short) }) p q
+one_reply o blocks (Err fault) body a b bytes short p q = p ∙ sym q

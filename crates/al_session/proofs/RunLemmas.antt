@@ -12,7 +12,7 @@ use Rattle.al_session.specs.Connection.{Serves}
 use Rattle.al_states.specs.Held.{Held}
 use Rattle.al_states.specs.Keeping.{IsStates, held}
 use Rattle.al_states.specs.Opening.{Opens}
-use Rattle.al_session.specs.Sessions.{Outside, Holds, most_genesis, IsServed, IsDigit, RunsOf, Runs, session_file, status_of}
+use Rattle.al_session.specs.Sessions.{Outside, Holds, most_genesis, IsServed, IsDigit, IsSession, status_of}
 use Rattle.al_states.proofs.KeepLemmas.{states_valid}
 use Rattle.al_states.proofs.SoundLemmas.{states_money}
 
@@ -22,10 +22,11 @@ read_holds None now name limit found x = tt
 read_holds (Some before) None name limit found x = absurd x
 read_holds (Some before) (Some now) name limit found x = sym x.1
 
-pub served_runs : (words : List (List ℕ)) (name file : List ℕ) (before after : Outside) (n : ℕ) (s t : States) (e : Ended) → Some name ≡ session_file words → Holds before.files name (Some file) → length file ≤ most_genesis → Opens file (Ok s) → Serves (held s) (held t) before.left after.left before.written after.written e → IsStates t → (e ≡ ended.SourceFault → Rose before.source_faults after.source_faults) → (e ≡ ended.SinkFault → Rose before.sink_faults after.sink_faults)
+-- the file opens, and the connection was served
+pub served_session : (name file : List ℕ) (before after : Outside) (n : ℕ) (s t : States) (e : Ended) → Holds before.files name (Some file) → length file ≤ most_genesis → Opens file (Ok s) → Serves (held s) (held t) before.left after.left before.written after.written e → IsStates t → (e ≡ ended.SourceFault → Rose before.source_faults after.source_faults) → (e ≡ ended.SinkFault → Rose before.sink_faults after.sink_faults)
     → (e ≢ ended.SourceFault → after.source_faults ≡ before.source_faults) × (e ≢ ended.SinkFault → after.sink_faults ≡ before.sink_faults) → n ≡ status_of e
-    → Runs words before after n
-served_runs words name file before after n s t e named holds short opened serves kept source sink stay is =
+    → IsSession name before after n
+served_session name file before after n s t e holds short opened serves kept source sink stay is =
     let x : IsServed name before after n = record {
       file = file;
       holds = holds;
@@ -43,7 +44,7 @@ served_runs words name file before after n s t e named holds short opened serves
       source_kept = stay.0;
       sink_kept = stay.1;
     } in
-    subst (λ o. RunsOf o before after n) named (inr (inr (inr x)))
+    inr (inr (inr x))
 
 -- the number that is shown of a file that opens nothing is a digit
 pub shown_digit : (file : List ℕ) (f : OpenFault) → Opens file (Err f) → IsDigit f

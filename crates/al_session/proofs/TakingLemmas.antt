@@ -1,19 +1,21 @@
 -- Bytes that leave a source and wait.
-use Rattle.std.proofs.Common.{◌≡◌, ◌≤◌, ◌<◌, inl, inr, ◌+◌, ℕ, List, [], ◌++◌, length, drop, refl, sym, ap, ◌∙◌, arith, subst, append_assoc, length-append, Option, Some, None, Ok, Err}
+use Rattle.std.proofs.Common.{◌≡◌, ◌≤◌, ◌<◌, ◌⊎◌, ◌+◌, ℕ, List, [], ◌++◌, length, refl, sym, ap, ◌∙◌, arith, subst, append_assoc, length-append, Option, Some, None, Ok, Err}
 use Rattle.std.proofs.lemmas.List.{append-nil}
-use Rattle.httparse.specs.Grammar.{RequestHead, print_request}
+use Rattle.httparse.specs.Grammar.{RequestHead, IsRequestHead, print_request}
 use Rattle.al_base.specs.Causes.{Left}
+use Rattle.al_routes.specs.Asks.{Answer, Asks, IsMemory}
+use Rattle.al_http.specs.declared.asking.SizeFault.{SizeFault}
 use Rattle.al_http.specs.declared.head.Head.{Head}
-use Rattle.al_http.specs.declared.asking.Request.{Request}
-use Rattle.al_http.specs.declared.asking.Asked.{Asked}
+use Rattle.al_http.specs.Fields.{ends_after}
 use Rattle.al_http.specs.Limits.{most_body, most_message}
-use Rattle.al_http.specs.Requests.{Message, IsRequest, IsBuilt, AsksFor, spell, IsUnfinished, IsBadHead}
-use Rattle.al_http.specs.Heads.{IsHeadAt, IsAsked}
-use Rattle.al_session.specs.Taking.{Grown, Stops, IsNoPiece, IsRefusedPiece, HeadNexts, IsPiece, Nexts}
+use Rattle.al_http.specs.Requests.{Message, IsRequest, IsUnfinished, spell}
+use Rattle.al_http.specs.Sizes.{size_read}
+use Rattle.al_http.specs.Heads.{IsHeadAt, IsHeadOf}
+use Rattle.al_http.proofs.HeadLemmas.{head_grows}
+use Rattle.al_http.proofs.RestLemmas.{body_unfinished, refused_head, size_ok, whole_request}
+use Rattle.al_session.specs.Taking.{Grown, Stops, IsNoHead, IsNoPiece, IsRefusedPiece, HeadNexts, IsPiece, Nexts}
 use Rattle.al_session.specs.declared.inbox.Stop.{Stop}
 use Rattle.al_session.specs.declared.inbox.Stop.TheVariants as stops
-use Rattle.al_http.proofs.HeadLemmas.{head_grows}
-use Rattle.al_http.proofs.RestLemmas.{bad_never_built, unbuilt_never_built, body_most, body_unfinished, whole_request}
 
 pub left_then : (a b c : Option (List ℕ)) (x y : List ℕ) → Left a b x → Left b c y → Left a c (x ++ y)
 left_then None b c x y p q = tt
@@ -39,70 +41,83 @@ grown_then old mid new a b c p q = record {
 pub grown_same : (old new : List ℕ) (b c : Option (List ℕ)) → new ≡ old → Left b c [] → Grown old new b c
 grown_same old new b c is q = record { got = []; more = is ∙ sym (append-nil old); left = q }
 
+-- what a head asks, unless memory was short for that
+abbrev pub SaysAsked : Head → Answer → Type 0
+SaysAsked head asked = (h : RequestHead) → IsRequestHead h → IsHeadOf h head → IsMemory asked ⊎ Asks h.method h.target asked
+
 -- a whole head and its whole body are a request
-whole : (buf : List ℕ) (head : Head) (h : RequestHead) (ask : Request) (n : ℕ) → IsHeadAt buf head h → IsBuilt h → AsksFor h ask n → head.used + n ≤ length buf → IsPiece buf (record { request = ask; used = head.used; size = n })
-whole buf head h ask n x built asks fits =
-    let r = whole_request buf head h n x built asks.1 fits in
-    (r.0, r.1, r.2, subst (λ k. AsksFor k ask n) (sym r.3) asks, x.is.used ∙ ap (λ k. length (print_request k)) (sym r.3), r.4, r.6)
+whole : (buf : List ℕ) (head : Head) (h : RequestHead) (asked : Answer) (n : ℕ) → IsHeadAt buf head h → SaysAsked head asked → size_read head.body ≡ Ok n → head.used + n ≤ length buf → IsPiece buf (record { asked = asked; close = head.close; used = head.used; size = n })
+whole buf head h asked n x asks read fits =
+    let r = whole_request buf head h n x read fits in (
+      r.0,
+      r.1,
+      r.2,
+      subst (λ (k : RequestHead). IsMemory asked ⊎ Asks k.method k.target asked) (sym r.3) (asks h x.reads.0 x.is),
+      x.is.close ∙ ap ends_after (sym r.3),
+      x.is.used ∙ ap (λ k. length (print_request k)) (sym r.3),
+      r.4,
+      r.6,
+    )
 
 -- ---- stops
 
 -- taking stopped behind bytes that were taken before
-pub stops_then : (unfinished refused partial bad : List ℕ → Type 0) (old mid new : List ℕ) (a b c : Option (List ℕ)) (s : Stop) → Grown old mid a b → (Grown mid new b c → unfinished new → partial new) → (Grown mid new b c → refused new → bad new) → Stops unfinished refused mid new b c s
+pub stops_then : (unfinished partial : List ℕ → Type 0) (refused bad : Stop → List ℕ → Type 0) (old mid new : List ℕ) (a b c : Option (List ℕ)) (s : Stop) → Grown old mid a b → (Grown mid new b c → unfinished new → partial new) → (refused s new → bad s new) → Stops unfinished refused mid new b c s
     → Stops partial bad old new a c s
-stops_then unfinished refused partial bad old mid new a b c stops.End p still none x = (grown_then old mid new a b c p x.0, still x.0 x.1, x.2)
-stops_then unfinished refused partial bad old mid new a b c stops.Fault p still none x = (grown_then old mid new a b c p x.0, still x.0 x.1)
-stops_then unfinished refused partial bad old mid new a b c stops.Refused p still none x = (grown_then old mid new a b c p x.0, none x.0 x.1)
-stops_then unfinished refused partial bad old mid new a b c stops.Memory p still none x = (p.got ++ x.0, left_then a b c p.got x.0 p.left x.1)
+stops_then unfinished partial refused bad old mid new a b c stops.End p still none x = (grown_then old mid new a b c p x.0, still x.0 x.1, x.2)
+stops_then unfinished partial refused bad old mid new a b c stops.Fault p still none x = (grown_then old mid new a b c p x.0, still x.0 x.1)
+stops_then unfinished partial refused bad old mid new a b c stops.BadHead p still none x = (grown_then old mid new a b c p x.0, none x.1)
+stops_then unfinished partial refused bad old mid new a b c (stops.Refused fault) p still none x = (grown_then old mid new a b c p x.0, none x.1)
+stops_then unfinished partial refused bad old mid new a b c stops.Memory p still none x = (p.got ++ x.0, left_then a b c p.got x.0 p.left x.1)
 
 -- a take that gives nothing stops the wait for a head
 pub head_stops : (old mid new : List ℕ) (a b c : Option (List ℕ)) (s : Stop) → Grown old mid a b → IsUnfinished mid → Stops (λ bytes. bytes ≡ mid) IsNoPiece mid new b c s → HeadNexts old new a c (Err s)
-head_stops old mid new a b c s p part x = stops_then (λ bytes. bytes ≡ mid) IsNoPiece IsUnfinished IsBadHead old mid new a b c s p (λ g is. subst IsUnfinished (sym is) part) (λ g no. absurd no) x
+head_stops old mid new a b c s p part x = stops_then (λ bytes. bytes ≡ mid) IsUnfinished IsNoPiece IsNoHead old mid new a b c s p (λ g is. subst IsUnfinished (sym is) part) (λ none. absurd none) x
 
 -- a take that gives nothing stops the wait for so many bytes
 pub wait_stops : (old mid new : List ℕ) (a b c : Option (List ℕ)) (need : ℕ) (s : Stop) → Grown old mid a b → length mid < need → Stops (λ bytes. bytes ≡ mid) IsNoPiece mid new b c s → Stops (λ bytes. length bytes < need) IsNoPiece old new a c s
-wait_stops old mid new a b c need s p short x = stops_then (λ bytes. bytes ≡ mid) IsNoPiece (λ bytes. length bytes < need) IsNoPiece old mid new a b c s p (λ g is. subst (λ xs. length xs < need) (sym is) short) (λ g no. absurd no) x
+wait_stops old mid new a b c need s p short x = stops_then (λ bytes. bytes ≡ mid) (λ bytes. length bytes < need) IsNoPiece IsNoPiece old mid new a b c s p (λ g is. subst (λ xs. length xs < need) (sym is) short) (λ none. absurd none) x
 
 -- ---- the next piece
 
+-- a bad head is a piece that is refused
+bad_refused : (s : Stop) (bytes : List ℕ) → IsNoHead s bytes → IsRefusedPiece s bytes
+bad_refused stops.End bytes x = x
+bad_refused stops.Fault bytes x = x
+bad_refused stops.BadHead bytes x = x
+bad_refused (stops.Refused fault) bytes x = absurd x
+bad_refused stops.Memory bytes x = x
+
 -- a head that does not come
 pub head_stopped : (old new : List ℕ) (a c : Option (List ℕ)) (s : Stop) → HeadNexts old new a c (Err s) → Nexts old new a c (Err s)
-head_stopped old new a c s x = stops_then IsUnfinished IsBadHead IsUnfinished IsRefusedPiece old old new a a c s (grown_self old a) (λ g part. part) (λ g bad. record { cause = inl bad; never = bad_never_built new bad }) x
+head_stopped old new a c s x = stops_then IsUnfinished IsUnfinished IsNoHead IsRefusedPiece old old new a a c s (grown_self old a) (λ g part. part) (bad_refused s new) x
 
--- a whole head that is not built is refused
-pub unbuilt_refused : (old new : List ℕ) (a b : Option (List ℕ)) (head : Head) → HeadNexts old new a b (Ok head) → ((h : RequestHead) → IsHeadAt new head h → IsBuilt h → ⊥) → Nexts old new a b (Err stops.Refused)
-unbuilt_refused old new a b head x not =
-    let h : RequestHead = x.1.0 in
-    let at : IsHeadAt new head h = x.1.1 in (
-      x.0,
-      record {
-        cause = inr (h, drop head.used new, at.reads, at.limits, not h at);
-        never = unbuilt_never_built new head h at (not h at);
-      },
-    )
+-- a whole head whose body is not read
+pub size_refused : (old new : List ℕ) (a b : Option (List ℕ)) (head : Head) (fault : SizeFault) → HeadNexts old new a b (Ok head) → size_read head.body ≡ Err fault → Nexts old new a b (Err (stops.Refused fault))
+size_refused old new a b head fault x refused = (x.0, refused_head new head x.1.0 fault x.1.1 refused)
 
 -- a whole head stays while its body is waited for
 head_stays : (mid new : List ℕ) (b c : Option (List ℕ)) (head : Head) (h : RequestHead) → IsHeadAt mid head h → Grown mid new b c → IsHeadAt new head h
 head_stays mid new b c head h x g = subst (λ bytes. IsHeadAt bytes head h) (sym g.more) (head_grows mid g.got head h x)
 
-pub body_more : (old mid new : List ℕ) (a b c : Option (List ℕ)) (head : Head) (ask : Request) (n : ℕ) (x : HeadNexts old mid a b (Ok head)) → IsBuilt x.1.0 → AsksFor x.1.0 ask n → Grown mid new b c × (head.used + n ≤ length new)
-    → Nexts old new a c (Ok (record { request = ask; used = head.used; size = n }))
-body_more old mid new a b c head ask n x built asks w = (grown_then old mid new a b c x.0 w.0, whole new head x.1.0 ask n (head_stays mid new b c head x.1.0 x.1.1 w.0) built asks w.1)
+-- the body came whole
+pub body_came : (old mid new : List ℕ) (a b c : Option (List ℕ)) (head : Head) (asked : Answer) (n : ℕ) → HeadNexts old mid a b (Ok head) → SaysAsked head asked → size_read head.body ≡ Ok n → Grown mid new b c × (head.used + n ≤ length new)
+    → Nexts old new a c (Ok (record { asked = asked; close = head.close; used = head.used; size = n }))
+body_came old mid new a b c head asked n x asks read w = (grown_then old mid new a b c x.0 w.0, whole new head x.1.0 asked n (head_stays mid new b c head x.1.0 x.1.1 w.0) asks read w.1)
 
 -- the body did not come whole
-pub body_stops : (old mid new : List ℕ) (a b c : Option (List ℕ)) (head : Head) (ask : Request) (n : ℕ) (s : Stop) (x : HeadNexts old mid a b (Ok head)) → IsBuilt x.1.0 → AsksFor x.1.0 ask n → Stops (λ bytes. length bytes < head.used + n) IsNoPiece mid new b c s → Nexts old new a c (Err s)
-body_stops old mid new a b c head ask n s x built asks w =
-    stops_then (λ bytes. length bytes < head.used + n) IsNoPiece IsUnfinished IsRefusedPiece old mid new a b c s x.0
-    (λ g short. body_unfinished new head x.1.0 n (head_stays mid new b c head x.1.0 x.1.1 g) built asks.1 short)
-    (λ g no. absurd no) w
+pub body_stops : (old mid new : List ℕ) (a b c : Option (List ℕ)) (head : Head) (n : ℕ) (s : Stop) → HeadNexts old mid a b (Ok head) → size_read head.body ≡ Ok n → Stops (λ bytes. length bytes < head.used + n) IsNoPiece mid new b c s → Nexts old new a c (Err s)
+body_stops old mid new a b c head n s x read w =
+    stops_then (λ bytes. length bytes < head.used + n) IsUnfinished IsNoPiece IsRefusedPiece old mid new a b c s x.0
+    (λ g short. body_unfinished new head x.1.0 n (head_stays mid new b c head x.1.0 x.1.1 g) read short)
+    (λ none. absurd none) w
 
--- what asks nothing is not built
-pub not_asked : (h : RequestHead) (o : Option Asked) → ((x : Asked) → o ≡ Some x → ⊥) → IsAsked h o → IsBuilt h → ⊥
-not_asked h None not x = x
-not_asked h (Some a) not x = absurd (not a refl)
+-- the bytes that a body is waited for
+pub need_fits : (old mid : List ℕ) (a b : Option (List ℕ)) (head : Head) (n : ℕ) → HeadNexts old mid a b (Ok head) → size_read head.body ≡ Ok n → head.used + n ≤ most_message
+need_fits old mid a b head n x read =
+    let size = size_ok head.body n read in
+    omega (arith, x.1.1.is.used, x.1.1.limits.bytes, size.1)
 
 -- the bytes of a request
-pub request_length : (m : Message) (ask : Request) (used size : ℕ) → used ≡ length (print_request m.head) → size ≡ length m.body → IsRequest m → AsksFor m.head ask size → (used + size ≡ length (spell m)) × (used + size ≤ most_message) × (size ≤ most_body)
-request_length m ask used size head long valid asks =
-    let most : size ≤ most_body = body_most ask size asks.2 in
-    (omega (arith, head, long, length-append (print_request m.head) m.body), omega (arith, head, valid.built.limits.bytes, most), most)
+pub request_length : (m : Message) (used size : ℕ) → used ≡ length (print_request m.head) → size ≡ length m.body → IsRequest m → (used + size ≡ length (spell m)) × (used + size ≤ most_message) × (size ≤ most_body)
+request_length m used size head long valid = (omega (arith, head, long, length-append (print_request m.head) m.body), omega (arith, head, long, valid.limits.bytes, valid.most), omega (arith, long, valid.most))

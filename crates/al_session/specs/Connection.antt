@@ -1,16 +1,21 @@
 -- What one connection is: the law of serving it.
-use Rattle.std.specs.Prelude.{◌≡◌, ◌⊎◌, ◌≤◌, ◌<◌, ℕ, List, [], ◌∷◌, ◌++◌, length, map, All, Option, ⊤}
+use Rattle.std.specs.Prelude.{◌≡◌, ◌⊎◌, ◌≤◌, ◌<◌, ℕ, List, [], ◌∷◌, ◌++◌, length, map, All, Option, Result, ⊤}
 use Rattle.std.specs.List.{flat_map}
 use mathlib.Core.List.{IsPrefix}
 use Rattle.al_base.specs.Causes.{Left, Wrote, IsAtEnd}
 use Rattle.al_eval.specs.State.{State}
 use Rattle.al_block.specs.declared.block.Block.{Block}
 use Rattle.al_block.specs.Block.{IsBlock}
-use Rattle.al_http.specs.Answers.{answer_text, memory_answer, not_built_answer}
-use Rattle.al_http.specs.Asks.{Asks}
-use Rattle.al_http.specs.Requests.{Message, IsRequest, stream_of, IsUnfinished}
-use Rattle.al_http.specs.declared.answer.Answer.{Answer}
-use Rattle.al_http.specs.declared.asking.Request.{Request}
+use Rattle.al_answers.specs.Answers.{answer_text, memory_answer, nothing, refusal}
+use Rattle.al_answers.specs.declared.answer.Answer.{Answer}
+use Rattle.al_answers.specs.declared.answer.ErrorName.{ErrorName}
+use Rattle.al_answers.specs.declared.answer.ErrorName.TheVariants as errors
+use Rattle.al_http.specs.Requests.{GoesOn, IsBadHead, IsClosed, IsOpen, IsRefusedHead, Message, IsRequest, stream_of, IsUnfinished}
+use Rattle.al_http.specs.declared.asking.SizeFault.{SizeFault}
+use Rattle.al_http.specs.declared.asking.SizeFault.TheVariants as sizes
+use Rattle.al_routes.specs.Asks.{Asks, IsMemory}
+use Rattle.al_routes.specs.declared.request.FormFault.{FormFault}
+use Rattle.al_routes.specs.declared.request.Request.{Request}
 use Rattle.al_session.specs.declared.inbox.Stop.{Stop}
 use Rattle.al_session.specs.declared.inbox.Stop.TheVariants as stops
 use Rattle.al_session.specs.declared.link.Ended.{Ended}
@@ -18,7 +23,6 @@ use Rattle.al_session.specs.declared.link.Ended.TheVariants as ended
 use Rattle.al_states.specs.declared.told.Told.{Told}
 use Rattle.al_states.specs.Held.{Held}
 use Rattle.al_states.specs.Replies.{taken, IsAnswer}
-use Rattle.al_session.specs.Taking.{IsRefusedPiece}
 
 -- ---- the answers
 
@@ -26,9 +30,9 @@ use Rattle.al_session.specs.Taking.{IsRefusedPiece}
 abbrev pub told_text : Told → List ℕ
 told_text t = answer_text t.answer
 
--- an answer to what a message asks
+-- an answer to what a message asks, or to the first fault of its method and target, or to want of memory
 abbrev pub IsToldOf : State → List Block → ℕ → Message → Told → Type 0
-IsToldOf o blocks low m t = (ask : Request) × Asks m.head.method m.head.target ask × IsAnswer o blocks low ask m.body t
+IsToldOf o blocks low m t = (asked : Result Request FormFault) × (IsMemory asked ⊎ Asks m.head.method m.head.target asked) × IsAnswer o blocks low asked m.body t
 
 -- one answer for each message, in order; the fronts do not fall
 abbrev pub Answers : State → List Block → ℕ → List Message → List Told → Type 0
@@ -59,6 +63,7 @@ Grow before (m ∷ ms) [] after = ⊥
 pub record Serving (before after : Held) (left_before left_now written_before written_now : Option (List ℕ)) (waiting : List ℕ) (requests : List Message) (told : List Told) : Type 0 where
   pub cut : Left left_before left_now (stream_of requests waiting)
   pub each : All IsRequest requests
+  pub going : All IsOpen requests
   pub written : Wrote written_before written_now (flat_map told_text told)
   pub origin : after.origin ≡ before.origin
   pub lists : IsPrefix before.blocks after.blocks
@@ -72,24 +77,55 @@ pub record Serving (before after : Held) (left_before left_now written_before wr
 abbrev pub most_requests : ℕ
 most_requests = 1000000
 
+-- the text that refuses a bad head
+abbrev pub bad_head_text : List ℕ
+bad_head_text = answer_text (refusal errors.BadHead nothing)
+
+-- the name of what refuses a body
+abbrev pub size_error : SizeFault → ErrorName
+size_error sizes.Coding = errors.Coding
+size_error sizes.BadLength = errors.BadLength
+size_error sizes.TooLarge = errors.TooLarge
+
+-- the text that refuses a body
+abbrev pub refused_text : SizeFault → List ℕ
+refused_text fault = answer_text (refusal (size_error fault) nothing)
+
+-- no request before the last ends the connection, and the last only where the connection finished or its answer could not be written
+abbrev pub AreOpen : Ended → List Message → Type 0
+AreOpen ended.Finished requests = GoesOn requests
+AreOpen ended.SinkFault requests = GoesOn requests
+AreOpen (ended.CutShort at) requests = All IsOpen requests
+AreOpen ended.BadHead requests = All IsOpen requests
+AreOpen ended.Unreadable requests = All IsOpen requests
+AreOpen ended.SourceFault requests = All IsOpen requests
+AreOpen ended.Spent requests = All IsOpen requests
+AreOpen ended.Memory requests = All IsOpen requests
+
 -- a piece that is refused, and the text that refuses it
 abbrev pub IsRefusal : List ℕ → List (List ℕ) → Type 0
-IsRefusal rest behind = IsRefusedPiece rest × (behind ≡ answer_text not_built_answer ∷ [])
+IsRefusal rest behind = (IsBadHead rest × (behind ≡ bad_head_text ∷ [])) ⊎ ((fault : SizeFault) × IsRefusedHead fault rest × (behind ≡ refused_text fault ∷ []))
+
+-- the text is written and the connection ends so, or the sink failed
+abbrev pub RefusesBy : List ℕ → Ended → Option (List ℕ) → Option (List ℕ) → Ended → Type 0
+RefusesBy text ending before now end =
+    ((end ≡ ending) × Wrote before now text)
+    ⊎ ((end ≡ ended.SinkFault) × ((part : List ℕ) × IsPrefix part text × Wrote before now part))
 
 -- how it ends where taking stopped: by the bytes taken and how many of them wait, and what is written then
 abbrev pub EndsBy : Stop → ℕ → ℕ → Option (List ℕ) → Option (List ℕ) → Ended → Type 0
 EndsBy stops.End taken waiting before now end = (now ≡ before) × (((waiting ≡ 0) × (end ≡ ended.Finished)) ⊎ ((0 < waiting) × (end ≡ ended.CutShort taken)))
 EndsBy stops.Fault taken waiting before now end = (now ≡ before) × (end ≡ ended.SourceFault)
-EndsBy stops.Refused taken waiting before now end =
-    ((end ≡ ended.Unreadable) × Wrote before now (answer_text not_built_answer))
-    ⊎ ((end ≡ ended.SinkFault) × ((part : List ℕ) × IsPrefix part (answer_text not_built_answer) × Wrote before now part))
+EndsBy stops.BadHead taken waiting before now end = RefusesBy bad_head_text ended.BadHead before now end
+EndsBy (stops.Refused fault) taken waiting before now end = RefusesBy (refused_text fault) ended.Unreadable before now end
 EndsBy stops.Memory taken waiting before now end = (now ≡ before) × (end ≡ ended.Memory)
 
 -- why it ended, by the rest of the taken bytes, and which text stands behind the answers
 abbrev pub EndsAs : Ended → Option (List ℕ) → List ℕ → List Message → List ℕ → List (List ℕ) → Type 0
-EndsAs ended.Finished left_now taken requests rest behind = (behind ≡ []) × (rest ≡ []) × IsAtEnd left_now
+EndsAs ended.Finished left_now taken requests rest behind = (behind ≡ []) × (((rest ≡ []) × All IsOpen requests × IsAtEnd left_now) ⊎ IsClosed requests)
 EndsAs (ended.CutShort at) left_now taken requests rest behind = (behind ≡ []) × (0 < length rest) × IsUnfinished rest × IsAtEnd left_now × (at ≡ length taken)
-EndsAs ended.Unreadable left_now taken requests rest behind = IsRefusal rest behind
+EndsAs ended.BadHead left_now taken requests rest behind = IsBadHead rest × (behind ≡ bad_head_text ∷ [])
+EndsAs ended.Unreadable left_now taken requests rest behind = (fault : SizeFault) × IsRefusedHead fault rest × (behind ≡ refused_text fault ∷ [])
 EndsAs ended.SourceFault left_now taken requests rest behind = (behind ≡ []) × IsUnfinished rest
 EndsAs ended.SinkFault left_now taken requests rest behind = (behind ≡ []) ⊎ IsRefusal rest behind
 EndsAs ended.Spent left_now taken requests rest behind = (behind ≡ []) × (length requests ≡ most_requests)
@@ -104,6 +140,7 @@ abbrev pub IsWritten : Ended → List ℕ → List (List ℕ) → Type 0
 IsWritten ended.SinkFault written texts = IsPartOf written texts
 IsWritten ended.Finished written texts = written ≡ flat_map (λ text. text) texts
 IsWritten (ended.CutShort at) written texts = written ≡ flat_map (λ text. text) texts
+IsWritten ended.BadHead written texts = written ≡ flat_map (λ text. text) texts
 IsWritten ended.Unreadable written texts = written ≡ flat_map (λ text. text) texts
 IsWritten ended.SourceFault written texts = written ≡ flat_map (λ text. text) texts
 IsWritten ended.Spent written texts = written ≡ flat_map (λ text. text) texts
@@ -113,6 +150,7 @@ IsWritten ended.Memory written texts = written ≡ flat_map (λ text. text) text
 pub record Served (before after : Held) (left_now : Option (List ℕ)) (taken written : List ℕ) (end : Ended) (requests : List Message) (told : List Told) (rest : List ℕ) (behind : List (List ℕ)) : Type 0 where
   pub cut : taken ≡ stream_of requests rest
   pub each : All IsRequest requests
+  pub going : AreOpen end requests
   pub texts : IsWritten end written (map told_text told ++ behind)
   pub ends : EndsAs end left_now taken requests rest behind
   pub origin : after.origin ≡ before.origin

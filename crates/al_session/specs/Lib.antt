@@ -4,3 +4,4 @@ pub mod Room
 pub mod Taking
 pub mod Sessions
 pub mod Entering
+pub mod Cuts

@@ -1,6 +1,5 @@
--- What a run of the program is: its words, its one line of text, and its status.
-use Rattle.std.specs.Prelude.{◌≢◌, ◌≤◌, ◌<◌, ◌+◌, ⊤, ◌≡◌, ◌⊎◌, ◌&&◌, ℕ, Bool, false, not, List, [], ◌∷◌, ◌++◌, length, codes, nat_eq, if◌then◌else◌, Option, Some, None, IsSomeAnd}
-use Rattle.std.specs.Str.{bytes_eq}
+-- What a run of the program is: its line of words, its one line of text, and its status.
+use Rattle.std.specs.Prelude.{◌≢◌, ◌≤◌, ◌<◌, ◌+◌, ⊤, ◌≡◌, ◌⊎◌, ℕ, List, [], ◌∷◌, ◌++◌, length, codes, Option, Some, None, IsSomeAnd}
 use mathlib.Core.List.{IsPrefix}
 use Rattle.al_base.specs.Causes.{Left, Wrote, Rose}
 use Rattle.al_base.specs.Folders.{FileMap}
@@ -15,18 +14,9 @@ use Rattle.al_states.specs.declared.opening.OpenFault.{OpenFault}
 use Rattle.al_states.specs.declared.opening.OpenFault.TheVariants as faults
 use Rattle.al_session.specs.declared.link.Ended.{Ended}
 use Rattle.al_session.specs.declared.link.Ended.TheVariants as ended
-
--- the first byte is a dash
-abbrev pub begins_with_dash : List ℕ → Bool
-begins_with_dash [] = false
-begins_with_dash (b ∷ bs) = nat_eq b 45
-
--- the words `session FILE`, where no word begins with a dash
-abbrev pub session_file : List (List ℕ) → Option (List ℕ)
-session_file [] = None
-session_file (command ∷ []) = None
-session_file (command ∷ file ∷ []) = if bytes_eq command (codes "session") && not (begins_with_dash file) then Some file else None
-session_file (command ∷ file ∷ other ∷ more) = None
+use Rattle.al_words.specs.Lines.{Reads, Says as Means}
+use Rattle.al_words.specs.declared.line.Line.{Line}
+use Rattle.al_words.specs.declared.line.Line.TheVariants as lines
 
 -- the line of status 2; 10 ends a line
 abbrev pub usage_line : List ℕ
@@ -44,6 +34,7 @@ folder_line name = codes "folder: " ++ name ++ 10 ∷ []
 abbrev pub status_of : Ended → ℕ
 status_of ended.Finished = 0
 status_of (ended.CutShort at) = 5
+status_of ended.BadHead = 5
 status_of ended.Unreadable = 5
 status_of ended.SourceFault = 5
 status_of ended.SinkFault = 5
@@ -143,11 +134,24 @@ pub record IsServed (name : List ℕ) (before after : Outside) (n : ℕ) : Type 
   pub source_kept : end ≢ ended.SourceFault → after.source_faults ≡ before.source_faults
   pub sink_kept : end ≢ ended.SinkFault → after.sink_faults ≡ before.sink_faults
 
--- a run of these words: status 2 exactly where they name no file of a session
-abbrev pub RunsOf : Option (List ℕ) → Outside → Outside → ℕ → Type 0
-RunsOf None before after status = (status ≡ 2) × SaysAlone usage_line before after
-RunsOf (Some name) before after status = IsUnread name before after status ⊎ IsNoGenesis name before after status ⊎ IsShort before after status ⊎ IsServed name before after status
+-- the session of a genesis file
+abbrev pub IsSession : List ℕ → Outside → Outside → ℕ → Type 0
+IsSession name before after status = IsUnread name before after status ⊎ IsNoGenesis name before after status ⊎ IsShort before after status ⊎ IsServed name before after status
 
--- what a run of the program is
+-- status 2: the words are no line that is served
+abbrev pub IsUsage : Outside → Outside → ℕ → Type 0
+IsUsage before after status = (status ≡ 2) × SaysAlone usage_line before after
+
+-- a run of a line, or of words that are none
+abbrev pub RunsOf : Option Line → Outside → Outside → ℕ → Type 0
+RunsOf None before after status = IsUsage before after status
+RunsOf (Some (lines.Session genesis)) before after status = IsSession genesis.now before after status
+RunsOf (Some (lines.Serve genesis port)) before after status = IsUsage before after status
+RunsOf (Some (lines.Generate number blocks)) before after status = IsUsage before after status
+RunsOf (Some (lines.Catchpoint genesis blocks round)) before after status = IsUsage before after status
+RunsOf (Some (lines.Catchup genesis label)) before after status = IsUsage before after status
+RunsOf (Some (lines.Label round)) before after status = IsUsage before after status
+
+-- what a run of the program is: it runs the line that the words are, unless memory is short before
 abbrev pub Runs : List (List ℕ) → Outside → Outside → ℕ → Type 0
-Runs words before after status = RunsOf (session_file words) before after status
+Runs words before after status = IsShort before after status ⊎ ((line : Option Line) × Reads (Means words) line × RunsOf line before after status)

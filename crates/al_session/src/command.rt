@@ -2,13 +2,14 @@
 ghost use Rattle.std.specs.Prelude.{◌≡◌, ◌≤◌, IfOk};
 ghost use Rattle.std.specs.Process.{exit_status};
 ghost use Rattle.al_session.specs.Entering.{Enters, words_of};
-ghost use Rattle.al_session.specs.Sessions.{IsDigit, KeepsFiles, Refuses, Runs, Says, folder_line, genesis_line, status_of};
+ghost use Rattle.al_session.specs.Sessions.{IsDigit, IsSession, KeepsFiles, Refuses, Runs, RunsOf, Says, folder_line, genesis_line, status_of, usage_line};
 
 use crate::link::{Caller, Ended, serve_link};
 use crate::words::Words;
 use al_base::{Folder, FolderRefusal, Sink, Source};
 use al_http::MOST_BODY;
 use al_states::{OpenFault, States};
+use al_words::{Line, read_command};
 use std::alloc::{AllocError, Global};
 use std::process::ExitCode;
 use std::{env, io};
@@ -31,6 +32,16 @@ fn say<T: Sink>(sink: &mut T, line: &[u8])
         Ok(()) => {}
         Err(_) => {}
     }
+}
+
+// Answers words that are no line that is served.
+fn usage<T: Sink>(sink: &mut T) -> Status
+    ensures status { result.0 ≡ 2 }
+    ensures says { Says usage_line (T.written sink.old) (T.written sink.new) (T.faults sink.old) (T.faults sink.new) }
+    ensures later { T.faults sink.old ≤ T.faults sink.new }
+{
+    say(sink, USAGE);
+    Status(2)
 }
 
 // The line of status 3.
@@ -73,6 +84,7 @@ fn status_of(ended: Ended) -> Status
     match ended {
         Ended::Finished => Status(0),
         Ended::CutShort { at: _ } => Status(5),
+        Ended::BadHead => Status(5),
         Ended::Unreadable => Status(5),
         Ended::SourceFault => Status(5),
         Ended::SinkFault => Status(5),
@@ -81,29 +93,18 @@ fn status_of(ended: Ended) -> Status
     }
 }
 
-/// Runs the command that the words say: `session FILE` reads the genesis file, and serves the
-/// source and the sink.
-///
-/// The status is 0 where the connection finished; 2 where the words are no command; 3 where the
-/// file holds no genesis that is taken; 4 where it could not be read; 5 where the connection ended
-/// otherwise; 7 where there was no memory. With 2, 3 and 4 one line of text is written, and
-/// nothing else. That the sum of all microAlgos stays asks that no state of the chain has an
-/// application whose account is the sink or the pool; all else needs no premise.
-pub fn run<S: Source, T: Sink, F: Folder>(
+// Serves the source and the sink from the genesis of a file.
+fn session<S: Source, T: Sink, F: Folder>(
     alloc: Global,
-    words: &Words,
+    name: &str,
     source: &mut S,
     sink: &mut T,
     folder: &mut F,
 ) -> Status
-    ensures runs { Runs words.now (record { left = S.left source.old; written = T.written sink.old; files = F.files folder.old; source_faults = S.faults source.old; sink_faults = T.faults sink.old; folder_faults = F.faults folder.old }) (record { left = S.left source.new; written = T.written sink.new; files = F.files folder.new; source_faults = S.faults source.new; sink_faults = T.faults sink.new; folder_faults = F.faults folder.new }) result.0 }
+    ensures runs { IsSession name.now (record { left = S.left source.old; written = T.written sink.old; files = F.files folder.old; source_faults = S.faults source.old; sink_faults = T.faults sink.old; folder_faults = F.faults folder.old }) (record { left = S.left source.new; written = T.written sink.new; files = F.files folder.new; source_faults = S.faults source.new; sink_faults = T.faults sink.new; folder_faults = F.faults folder.new }) result.0 }
     ensures files { KeepsFiles (F.files folder.old) (F.files folder.new) }
     ensures later { (S.faults source.old ≤ S.faults source.new) × (T.faults sink.old ≤ T.faults sink.new) × (F.faults folder.old ≤ F.faults folder.new) }
 {
-    let Some(name) = words.session_file() else {
-        say(sink, USAGE);
-        return Status(2);
-    };
     let bytes = match folder.read(alloc, name, MOST_GENESIS) {
         Ok(Some(bytes)) => bytes,
         Err(FolderRefusal::Memory) => return Status(7),
@@ -124,6 +125,78 @@ pub fn run<S: Source, T: Sink, F: Folder>(
             sink,
         )),
         Err(fault) => refuse(sink, fault),
+    }
+}
+
+// Runs the line that the words are, if they are one.
+fn run_line<S: Source, T: Sink, F: Folder>(
+    alloc: Global,
+    line: Option<Line>,
+    source: &mut S,
+    sink: &mut T,
+    folder: &mut F,
+) -> Status
+    ensures runs { RunsOf line.entry (record { left = S.left source.old; written = T.written sink.old; files = F.files folder.old; source_faults = S.faults source.old; sink_faults = T.faults sink.old; folder_faults = F.faults folder.old }) (record { left = S.left source.new; written = T.written sink.new; files = F.files folder.new; source_faults = S.faults source.new; sink_faults = T.faults sink.new; folder_faults = F.faults folder.new }) result.0 }
+    ensures files { KeepsFiles (F.files folder.old) (F.files folder.new) }
+    ensures later { (S.faults source.old ≤ S.faults source.new) × (T.faults sink.old ≤ T.faults sink.new) × (F.faults folder.old ≤ F.faults folder.new) }
+{
+    match line {
+        Some(Line::Session { genesis }) => session(alloc, genesis, source, sink, folder),
+        Some(
+            Line::Serve {
+                genesis: _,
+                port: _,
+            },
+        ) => usage(sink),
+        Some(
+            Line::Generate {
+                number: _,
+                blocks: _,
+            },
+        ) => usage(sink),
+        Some(
+            Line::Catchpoint {
+                genesis: _,
+                blocks: _,
+                round: _,
+            },
+        ) => usage(sink),
+        Some(
+            Line::Catchup {
+                genesis: _,
+                label: _,
+            },
+        ) => usage(sink),
+        Some(Line::Label { round: _ }) => usage(sink),
+        None => usage(sink),
+    }
+}
+
+/// Runs the command that the words say: `session FILE` reads the genesis file, and serves the
+/// source and the sink.
+///
+/// The status is 0 where the connection finished; 2 where the words are no command, or one that is
+/// not served; 3 where the file holds no genesis that is taken; 4 where it could not be read; 5
+/// where the connection ended otherwise; 7 where there was no memory. With 2, 3 and 4 one line of
+/// text is written, and nothing else. That the sum of all microAlgos stays asks that no state of
+/// the chain has an application whose account is the sink or the pool; all else needs no premise.
+pub fn run<S: Source, T: Sink, F: Folder>(
+    alloc: Global,
+    words: &Words,
+    source: &mut S,
+    sink: &mut T,
+    folder: &mut F,
+) -> Status
+    ensures runs { Runs words.now (record { left = S.left source.old; written = T.written sink.old; files = F.files folder.old; source_faults = S.faults source.old; sink_faults = T.faults sink.old; folder_faults = F.faults folder.old }) (record { left = S.left source.new; written = T.written sink.new; files = F.files folder.new; source_faults = S.faults source.new; sink_faults = T.faults sink.new; folder_faults = F.faults folder.new }) result.0 }
+    ensures files { KeepsFiles (F.files folder.old) (F.files folder.new) }
+    ensures later { (S.faults source.old ≤ S.faults source.new) × (T.faults sink.old ≤ T.faults sink.new) × (F.faults folder.old ≤ F.faults folder.new) }
+{
+    let Ok(texts) = words.texts(alloc) else {
+        return Status(7);
+    };
+    match read_command(alloc, &texts) {
+        Ok(line) => run_line(alloc, line, source, sink, folder),
+        Err(_) => Status(7),
     }
 }
 

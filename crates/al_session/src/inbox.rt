@@ -4,7 +4,8 @@ ghost use Rattle.al_http.specs.Limits.{most_message};
 ghost use Rattle.al_session.specs.Taking.{Fills, HeadNexts, IsCounted, Nexts, Waits};
 
 use al_base::{Failed, Source};
-use al_http::{Head, HeadRead, Request, read_head};
+use al_http::{Head, HeadRead, SizeFault, read_head};
+use al_routes::{FormFault, Request, Routes};
 use std::alloc::{AllocError, Global};
 use std::marker::Model;
 
@@ -18,8 +19,10 @@ pub enum Stop {
     End,
     /// The source failed.
     Fault,
-    /// A head that is malformed or not built waits.
-    Refused,
+    /// A bad head waits.
+    BadHead,
+    /// A whole head waits, whose body is not read.
+    Refused(SizeFault),
     /// There was no memory.
     Memory,
 }
@@ -49,7 +52,10 @@ impl From<AllocError> for Stop {
 /// A request whose bytes wait.
 #[derive(Clone, Copy, Debug, PartialEq, Eq)]
 pub struct Piece {
-    pub request: Request,
+    /// What it asks, or the first fault of its method and target.
+    pub asked: Result<Request, FormFault>,
+    /// Whether the connection ends after it.
+    pub close: bool,
     /// The bytes of its head.
     pub used: usize,
     /// The bytes of its body.
@@ -135,7 +141,7 @@ impl Inbox {
         loop {
             match read_head(alloc, self.waiting())? {
                 HeadRead::Got(head) => return Ok(head),
-                HeadRead::Bad => return Err(Stop::Refused),
+                HeadRead::Bad => return Err(Stop::BadHead),
                 HeadRead::Partial => self.fill(source)?,
             }
         }
@@ -159,20 +165,27 @@ impl Inbox {
     /// # Errors
     ///
     /// Why taking stopped before.
-    pub fn next<S: Source>(&mut self, alloc: Global, source: &mut S) -> Result<Piece, Stop>
+    pub fn next<S: Source>(
+        &mut self,
+        alloc: Global,
+        routes: &Routes,
+        source: &mut S,
+    ) -> Result<Piece, Stop>
         ensures bytes { Nexts self.old self.new (S.left source.old) (S.left source.new) result }
         ensures later { S.faults source.old ≤ S.faults source.new }
         ensures kept { IsCounted (S.faults source.old) (S.faults source.new) result }
     {
         let head = self.next_head(alloc, source)?;
-        let Some(asked) = head.asked() else {
-            return Err(Stop::Refused);
+        let size = match head.size() {
+            Ok(size) => size,
+            Err(fault) => return Err(Stop::Refused(fault)),
         };
-        self.wait_for(source, head.used + asked.size)?;
+        self.wait_for(source, head.used + size)?;
         Ok(Piece {
-            request: asked.request,
+            asked: head.request(alloc, routes),
+            close: head.close,
             used: head.used,
-            size: asked.size,
+            size,
         })
     }
 }

@@ -2,12 +2,14 @@
 #![tactic(auto)]
 
 mod command;
+mod cuts;
 mod inbox;
 mod laws;
 mod link;
 mod words;
 
 pub use command::{Status, enter, run};
+pub use cuts::served_is_cut;
 pub use laws::one_reply;
 pub use link::{Caller, Ended, serve_link};
 pub use words::Words;

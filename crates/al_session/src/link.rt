@@ -1,16 +1,20 @@
 //! One connection.
 ghost use Rattle.std.specs.Prelude.{◌≡◌, ◌≢◌, ◌≤◌, ◌⊎◌, length};
 ghost use Rattle.al_base.specs.Causes.{HasCause, Puts, Rose};
-ghost use Rattle.al_http.specs.Answers.{IsSound, answer_text, memory_answer};
-ghost use Rattle.al_http.specs.declared.answer.Answer.{Answer};
-ghost use Rattle.al_session.specs.Connection.{EndsBy, Serves};
+ghost use Rattle.al_answers.specs.Answers.{IsSound, answer_text, memory_answer};
+ghost use Rattle.al_answers.specs.declared.answer.Answer.{Answer};
+ghost use Rattle.al_session.specs.Connection.{EndsBy, RefusesBy, Serves, refused_text};
 ghost use Rattle.al_states.specs.Held.{AreApart, KeepsMoney};
 ghost use Rattle.al_states.specs.Keeping.{IsStates, held};
 ghost use Rattle.al_session.specs.declared.link.Ended.TheVariants as ended;
 
 use crate::inbox::{Inbox, Stop};
+use al_answers::{
+    answer_bytes, bad_head_text, bad_length_text, coding_text, memory_text, too_large_text,
+};
 use al_base::{Failed, Sink, Source};
-use al_http::{answer_bytes, memory_text, not_built_text};
+use al_http::SizeFault;
+use al_routes::Routes;
 use al_states::{States, Told};
 use std::alloc::Global;
 
@@ -36,11 +40,13 @@ impl Caller {
 /// Why a connection ended.
 #[derive(Clone, Copy, Debug, PartialEq, Eq)]
 pub enum Ended {
-    /// The source ended behind a request.
+    /// The source ended behind a request, or a request ended the connection.
     Finished,
     /// The source ended inside a request; all bytes taken are counted.
     CutShort { at: u64 },
-    /// A head that is not built was refused.
+    /// A bad head was refused.
+    BadHead,
+    /// A head whose body is not read was refused.
     Unreadable,
     /// The source failed.
     SourceFault,
@@ -65,6 +71,31 @@ fn send<T: Sink>(alloc: Global, sink: &mut T, told: &Told) -> Result<(), Failed>
     }
 }
 
+// The text that refuses a body.
+fn refused_text(fault: SizeFault) -> &'static [u8]
+    ensures { result.now ≡ refused_text fault }
+{
+    match fault {
+        SizeFault::Coding => coding_text(),
+        SizeFault::BadLength => bad_length_text(),
+        SizeFault::TooLarge => too_large_text(),
+    }
+}
+
+// Refuses a piece, after which the connection ends so.
+fn refuse<T: Sink>(sink: &mut T, text: &[u8], end: Ended) -> Ended
+    requires { end ≢ ended.SinkFault }
+    ensures refuses { RefusesBy text.now end (T.written sink.old) (T.written sink.new) result }
+    ensures sink_fault { result ≡ ended.SinkFault → Rose (T.faults sink.old) (T.faults sink.new) }
+    ensures kept { result ≢ ended.SinkFault → T.faults sink.new ≡ T.faults sink.old }
+    ensures later { T.faults sink.old ≤ T.faults sink.new }
+{
+    match sink.put(text) {
+        Ok(()) => end,
+        Err(_) => Ended::SinkFault,
+    }
+}
+
 // How a connection ends where taking stopped. So many bytes were taken, of which so many wait.
 fn end<T: Sink>(sink: &mut T, stop: Stop, taken: u64, waiting: usize) -> Ended
     ensures ends { EndsBy stop taken waiting (T.written sink.old) (T.written sink.new) result }
@@ -81,10 +112,8 @@ fn end<T: Sink>(sink: &mut T, stop: Stop, taken: u64, waiting: usize) -> Ended
             }
         }
         Stop::Fault => Ended::SourceFault,
-        Stop::Refused => match sink.put(not_built_text()) {
-            Ok(()) => Ended::Unreadable,
-            Err(_) => Ended::SinkFault,
-        },
+        Stop::BadHead => refuse(sink, bad_head_text(), Ended::BadHead),
+        Stop::Refused(fault) => refuse(sink, refused_text(fault), Ended::Unreadable),
         Stop::Memory => Ended::Memory,
     }
 }
@@ -114,10 +143,13 @@ pub fn serve_link<S: Source, T: Sink>(
     ensures later { (S.faults source.old ≤ S.faults source.new) × (T.faults sink.old ≤ T.faults sink.new) }
 {
     caller.seen = states.front();
+    let Ok(routes) = Routes::new(alloc) else {
+        return Ended::Memory;
+    };
     let mut inbox = Inbox::new(alloc);
     let mut done: u64 = 0;
     for i in 0..MOST_REQUESTS {
-        let piece = match inbox.next(alloc, source) {
+        let piece = match inbox.next(alloc, &routes, source) {
             Ok(piece) => piece,
             Err(stop) => {
                 let waiting = inbox.len();
@@ -125,11 +157,14 @@ pub fn serve_link<S: Source, T: Sink>(
             }
         };
         let length = piece.used + piece.size;
-        let told = states.answer(&piece.request, &inbox.waiting()[piece.used..length]);
+        let told = states.answer(&piece.asked, &inbox.waiting()[piece.used..length]);
         caller.seen = told.front;
         match send(alloc, sink, &told) {
             Ok(()) => {}
             Err(_) => return Ended::SinkFault,
+        }
+        if piece.close {
+            return Ended::Finished;
         }
         inbox.pass(length);
         done += length as u64;

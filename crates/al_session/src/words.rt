@@ -1,8 +1,6 @@
 //! The command's words.
-ghost use Rattle.std.specs.Prelude.{◌≡◌, ◌∷◌, [], ◌++◌, IfOk, OnOk, OnErr, Option};
-ghost use Rattle.std.specs.Option.{option_copied};
+ghost use Rattle.std.specs.Prelude.{◌≡◌, ◌∷◌, [], ◌++◌, map, string_bytes, IfOk, OnOk, OnErr};
 ghost use Rattle.al_session.specs.Entering.{words_behind};
-ghost use Rattle.al_session.specs.Sessions.{session_file};
 
 use std::alloc::{AllocError, Global};
 use std::env;
@@ -55,19 +53,20 @@ impl Words {
         Ok(())
     }
 
-    /// The file of `session FILE`, where these are the words.
-    pub fn session_file(&self) -> Option<&str>
-        ensures { option_copied result ≡ session_file self.now }
+    /// The words as texts.
+    ///
+    /// # Errors
+    ///
+    /// `AllocError` where there is no memory for the list.
+    pub fn texts(&self, alloc: Global) -> Result<Vec<&str>, AllocError>
+        ensures { IfOk result (λ texts. map (λ t. t.now) texts.items ≡ self.now) }
     {
-        match self.words.as_slice() {
-            [command, file] => {
-                if command.as_str() == "session" && !file.as_bytes().starts_with(b"-") {
-                    Some(file.as_str())
-                } else {
-                    None
-                }
-            }
-            _ => None,
-        }
+        texts_of(alloc, self.words.as_slice())
     }
+}
+
+fn texts_of<'a>(alloc: Global, words: &'a [String]) -> Result<Vec<&'a str>, AllocError>
+    ensures { IfOk result (λ texts. map (λ t. t.now) texts.items ≡ map string_bytes words.now) }
+{
+    words.iter().map(|word| word.as_str()).collect(alloc)
 }
