@@ -12,7 +12,7 @@ const MOST: usize = 1_000_000;
 
 /// The stored connections: each has a file with its genesis, one with its requests and one with
 /// the answers.
-const CONNECTIONS: [&str; 23] = [
+const CONNECTIONS: [&str; 27] = [
     "frozen",
     "destroyed",
     "closed_to_frozen_creator",
@@ -36,6 +36,10 @@ const CONNECTIONS: [&str; 23] = [
     "effects_1",
     "effects_2",
     "effects_3",
+    "interface_1",
+    "interface_2",
+    "interface_3",
+    "market",
 ];
 
 /// A source that comes in pieces.

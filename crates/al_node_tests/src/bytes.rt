@@ -133,7 +133,7 @@ fn phrase(status: u64) -> &'static str {
 }
 
 // Appends a request that posts these bytes.
-fn ask(alloc: Global, asked: &mut Vec<u8>, body: &[u8]) -> Result<(), AllocError> {
+pub(crate) fn ask(alloc: Global, asked: &mut Vec<u8>, body: &[u8]) -> Result<(), AllocError> {
     let size = body.len();
     let head = format!(in alloc; "POST /v1/blocks HTTP/1.1\r\ncontent-length: {size}\r\n\r\n")?;
     asked.extend_from_slice(head.as_bytes())?;
@@ -141,7 +141,12 @@ fn ask(alloc: Global, asked: &mut Vec<u8>, body: &[u8]) -> Result<(), AllocError
 }
 
 // Appends an answer.
-fn tell(alloc: Global, told: &mut Vec<u8>, status: u64, text: &str) -> Result<(), AllocError> {
+pub(crate) fn tell(
+    alloc: Global,
+    told: &mut Vec<u8>,
+    status: u64,
+    text: &str,
+) -> Result<(), AllocError> {
     let phrase = phrase(status);
     let size = text.len();
     let answer = format!(in alloc;

@@ -2,8 +2,6 @@
 #![tactic(auto)]
 
 #[cfg(test)]
-mod answers;
-#[cfg(test)]
 mod bytes;
 #[cfg(test)]
 mod chains;
@@ -12,8 +10,10 @@ mod common;
 #[cfg(test)]
 mod endings;
 #[cfg(test)]
-mod heads;
+mod lookback;
 #[cfg(test)]
 mod payments;
 #[cfg(test)]
 mod rewards;
+#[cfg(test)]
+mod routes;
