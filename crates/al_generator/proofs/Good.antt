@@ -22,7 +22,7 @@ bytes_alike : (n b : ℕ) → b < 256 → AreBytes (replicate n b)
 bytes_alike zero b lt = tt
 bytes_alike (suc n) b lt = (lt, bytes_alike n b lt)
 
-array_of : (n b : ℕ) → b < 256 → IsArray n (replicate n b)
+pub array_of : (n b : ℕ) → b < 256 → IsArray n (replicate n b)
 array_of n b lt = (bytes_alike n b lt, length-replicate {A = ℕ} n b)
 
 -- an account whose record is one

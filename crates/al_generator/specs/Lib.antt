@@ -1,4 +1,5 @@
 pub mod Draws
+pub mod Fits
 pub mod Genesis
 pub mod Items
 pub mod Turns

@@ -15,4 +15,4 @@ mod turns;
 
 pub use generator::Generator;
 pub use genesis::generated_genesis;
-pub use laws::genesis_is_good;
+pub use laws::{draws_fit, genesis_is_good};

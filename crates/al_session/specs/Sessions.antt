@@ -1,5 +1,5 @@
 -- What a run of the program is: its line of words, its one line of text, and its status.
-use Rattle.std.specs.Prelude.{◌≢◌, ◌≤◌, ◌<◌, ◌+◌, ⊤, ◌≡◌, ◌⊎◌, ℕ, List, [], ◌∷◌, ◌++◌, length, codes, Option, Some, None, IsSomeAnd}
+use Rattle.std.specs.Prelude.{◌≢◌, ◌≤◌, ◌<◌, ◌+◌, ⊤, ◌≡◌, ◌⊎◌, ℕ, List, [], ◌∷◌, ◌++◌, length, codes, Option, Some, None, Ok, IsSomeAnd}
 use mathlib.Core.List.{IsPrefix}
 use Rattle.al_base.specs.Causes.{Left, Wrote, Rose}
 use Rattle.al_base.specs.Folders.{FileMap}
@@ -7,6 +7,9 @@ use Rattle.al_block.specs.Block.{most_bytes}
 use Rattle.al_genesis.specs.declared.genesis.Genesis.{Genesis}
 use Rattle.al_genesis.specs.Genesis.{IsGenesis}
 use Rattle.al_eval.specs.Start.{start}
+use Rattle.al_eval.specs.State.{State, replay}
+use Rattle.al_generated.specs.Chain.{generated_blocks, origin}
+use Rattle.al_generated.specs.Summary.{summary}
 use Rattle.al_session.specs.Connection.{Serves}
 use Rattle.al_states.specs.Held.{AreApart, Held, IsValid, KeepsMoney}
 use Rattle.al_states.specs.Opening.{IsRefusedGenesis}
@@ -138,6 +141,26 @@ pub record IsServed (name : List ℕ) (before after : Outside) (n : ℕ) : Type 
 abbrev pub IsSession : List ℕ → Outside → Outside → ℕ → Type 0
 IsSession name before after status = IsUnread name before after status ⊎ IsNoGenesis name before after status ⊎ IsShort before after status ⊎ IsServed name before after status
 
+-- the most blocks of a chain that is made, all of which are held in memory
+abbrev pub most_generated : ℕ
+most_generated = 1000
+
+-- a text was written, with status 0; or a front of it, where the sink failed, with status 5
+abbrev pub Sends : List ℕ → Option (List ℕ) → Option (List ℕ) → ℕ → ℕ → ℕ → Type 0
+Sends text before now f g status = ((status ≡ 0) × Wrote before now text × (g ≡ f)) ⊎ ((status ≡ 5) × ((part : List ℕ) × IsPrefix part text × Wrote before now part × Rose f g))
+
+-- the chain of a number was made, so many blocks long, and its summary sent; or, with status 7, there was no memory or a block of it was refused
+abbrev pub Generates : ℕ → ℕ → Option (List ℕ) → Option (List ℕ) → ℕ → ℕ → ℕ → Type 0
+Generates number blocks before now f g status =
+    ((status ≡ 7) × Wrote before now [] × (g ≡ f))
+    ⊎ ((s : State) × (replay origin (generated_blocks number blocks) ≡ Ok s) × Sends (summary blocks s) before now f g status)
+
+-- the run that makes a chain takes nothing
+pub record IsGeneration (number blocks : ℕ) (before after : Outside) (n : ℕ) : Type 0 where
+  pub taken : Left before.left after.left []
+  pub source_kept : after.source_faults ≡ before.source_faults
+  pub generates : Generates number blocks before.written after.written before.sink_faults after.sink_faults n
+
 -- status 2: the words are no line that is served
 abbrev pub IsUsage : Outside → Outside → ℕ → Type 0
 IsUsage before after status = (status ≡ 2) × SaysAlone usage_line before after
@@ -147,7 +170,7 @@ abbrev pub RunsOf : Option Line → Outside → Outside → ℕ → Type 0
 RunsOf None before after status = IsUsage before after status
 RunsOf (Some (lines.Session genesis)) before after status = IsSession genesis.now before after status
 RunsOf (Some (lines.Serve genesis port)) before after status = IsUsage before after status
-RunsOf (Some (lines.Generate number blocks)) before after status = IsUsage before after status
+RunsOf (Some (lines.Generate number blocks)) before after status = ((blocks ≤ most_generated) × IsGeneration number blocks before after status) ⊎ ((most_generated < blocks) × IsUsage before after status)
 RunsOf (Some (lines.Catchpoint genesis blocks round)) before after status = IsUsage before after status
 RunsOf (Some (lines.Catchup genesis label)) before after status = IsUsage before after status
 RunsOf (Some (lines.Label round)) before after status = IsUsage before after status

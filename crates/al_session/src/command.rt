@@ -4,6 +4,7 @@ ghost use Rattle.std.specs.Process.{exit_status};
 ghost use Rattle.al_session.specs.Entering.{Enters, words_of};
 ghost use Rattle.al_session.specs.Sessions.{IsDigit, IsSession, KeepsFiles, Refuses, Runs, RunsOf, Says, folder_line, genesis_line, status_of, usage_line};
 
+use crate::generation::{MOST_GENERATED, generation};
 use crate::link::{Caller, Ended, serve_link};
 use crate::words::Words;
 use al_base::{Folder, FolderRefusal, Sink, Source};
@@ -148,12 +149,12 @@ fn run_line<S: Source, T: Sink, F: Folder>(
                 port: _,
             },
         ) => usage(sink),
-        Some(
-            Line::Generate {
-                number: _,
-                blocks: _,
-            },
-        ) => usage(sink),
+        Some(Line::Generate { number, blocks }) => {
+            if blocks > MOST_GENERATED {
+                return usage(sink);
+            }
+            generation(alloc, number, blocks, sink)
+        }
         Some(
             Line::Catchpoint {
                 genesis: _,
@@ -173,13 +174,15 @@ fn run_line<S: Source, T: Sink, F: Folder>(
 }
 
 /// Runs the command that the words say: `session FILE` reads the genesis file, and serves the
-/// source and the sink.
+/// source and the sink; `generate NUMBER BLOCKS` makes a chain of at most 1,000 blocks, and writes
+/// its summary.
 ///
-/// The status is 0 where the connection finished; 2 where the words are no command, or one that is
-/// not served; 3 where the file holds no genesis that is taken; 4 where it could not be read; 5
-/// where the connection ended otherwise; 7 where there was no memory. With 2, 3 and 4 one line of
-/// text is written, and nothing else. That the sum of all microAlgos stays asks that no state of
-/// the chain has an application whose account is the sink or the pool; all else needs no premise.
+/// The status is 0 where the connection finished, or the summary was written; 2 where the words are
+/// no command, or one that is not served; 3 where the file holds no genesis that is taken; 4 where
+/// it could not be read; 5 where the connection ended otherwise, or the sink failed; 7 where there
+/// was no memory, or a block of the chain was refused. With 2, 3 and 4 one line of text is written,
+/// and nothing else. That the sum of all microAlgos stays asks that no state of the chain has an
+/// application whose account is the sink or the pool; all else needs no premise.
 pub fn run<S: Source, T: Sink, F: Folder>(
     alloc: Global,
     words: &Words,

@@ -3,6 +3,7 @@
 
 mod command;
 mod cuts;
+mod generation;
 mod inbox;
 mod laws;
 mod link;

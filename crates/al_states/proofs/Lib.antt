@@ -4,3 +4,4 @@ pub mod OpenLemmas
 pub mod ToldLemmas
 pub mod SoundLemmas
 pub mod LookLemmas
+pub mod MakeLemmas

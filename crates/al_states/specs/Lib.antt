@@ -6,3 +6,4 @@ pub mod Opening
 pub mod Looking
 pub mod Showing
 pub mod Accepting
+pub mod Due

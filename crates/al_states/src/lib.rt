@@ -6,6 +6,7 @@ mod answering;
 mod keeping;
 mod looking;
 mod lookups;
+mod making;
 mod opening;
 mod replies;
 mod states;

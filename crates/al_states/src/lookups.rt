@@ -63,7 +63,7 @@ impl States {
     }
 
     // The row under a key after a round that is at most the front.
-    fn row_after(&self, key: &Key, round: u64) -> Option<&Row>
+    pub(crate) fn row_after(&self, key: &Key, round: u64) -> Option<&Row>
         requires states { IsStates self.now }
         requires within { round ≤ length (held self.now).blocks }
         ensures row { option_copied result ≡ option_map (λ s. s.row) (row_at (held self.now).origin (held self.now).blocks round key.now) }

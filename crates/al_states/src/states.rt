@@ -1,10 +1,11 @@
 //! The states of the ledger, one after each block.
-ghost use Rattle.std.specs.Prelude.{◌≡◌, ◌≤◌, ◌<◌, ◌^◌, ℕ, suc, [], ◌∷◌, ◌++◌, length, take, All, Ok, IfOk, OnOk, OnErr};
+ghost use Rattle.std.specs.Prelude.{◌≡◌, ◌≤◌, ◌<◌, ◌^◌, ℕ, suc, List, [], ◌∷◌, ◌++◌, length, take, All, Ok, IfOk, OnOk, OnErr};
 ghost use Rattle.al_block.specs.Block.{IsBlock};
 ghost use Rattle.al_eval.specs.Sound.{Sound};
 ghost use Rattle.al_online.specs.Memory.{IsEachOnce};
 ghost use Rattle.al_eval.specs.Start.{start, start_online, start_rows, start_totals};
 ghost use Rattle.al_eval.specs.State.{State, counts_in, replay};
+ghost use Rattle.al_genesis.specs.Genesis.{IsGenesis};
 ghost use Rattle.al_states.specs.Accepting.{Accepts};
 ghost use Rattle.al_states.specs.Held.{AreApart, IsValid};
 ghost use Rattle.al_states.specs.Keeping.{IsNewest, IsStates, Leads, held};
@@ -62,6 +63,15 @@ impl States {
             Ok(states) => Ok(states),
             Err(_) => Err(OpenFault::Memory),
         }
+    }
+
+    /// The ledger that a genesis begins, with no block.
+    pub fn of_genesis(alloc: Global, genesis: Genesis) -> Result<States, AllocError>
+        requires { (file : List ℕ) × IsGenesis file genesis }
+        ensures states { IfOk result (λ s. IsStates s) }
+        ensures origin { IfOk result (λ s. held s ≡ record { origin = start genesis; blocks = [] }) }
+    {
+        States::begin(alloc, genesis)
     }
 
     // The states of a genesis, with no block.

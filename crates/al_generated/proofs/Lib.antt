@@ -1,0 +1,4 @@
+pub mod TakeLemmas
+pub mod ChainLemmas
+pub mod MadeLemmas
+pub mod TextLemmas
