@@ -1,0 +1,17 @@
+pub mod Standings
+pub mod Minimums
+pub mod Counts
+pub mod Creators
+pub mod AllHere
+pub mod Puts
+pub mod Bodies
+pub mod Calls
+pub mod Events
+pub mod Items
+pub mod Forms
+pub mod Blocks
+pub mod Steps
+pub mod Spellings
+pub mod Repeats
+pub mod Begins
+pub mod Law
