@@ -66,7 +66,7 @@ const NO_ROWS: [Row; 0] = [];
 
 /// Words, which call of the folder fails, what is sent and written, and the status. The commands that
 /// are not built are usage.
-const STATUSES: [(&[&str], u64, &[Row], u8); 22] = [
+const STATUSES: [(&[&str], u64, &[Row], u8); 26] = [
     (&[], 0, &USAGE, 2),
     (&["session"], 0, &USAGE, 2),
     (&["session", "-g"], 0, &USAGE, 2),
@@ -76,7 +76,11 @@ const STATUSES: [(&[&str], u64, &[Row], u8); 22] = [
     (&["help"], 0, &USAGE, 2),
     (&["--db", "d", "session", "g"], 0, &USAGE, 2),
     (&["serve", "g", "8080"], 0, &USAGE, 2),
-    (&["generate", "7", "200"], 0, &USAGE, 2),
+    (&["generate", "7"], 0, &USAGE, 2),
+    (&["generate", "7", "0"], 0, &USAGE, 2),
+    (&["generate", "7", "1001"], 0, &USAGE, 2),
+    (&["generate", "07", "200"], 0, &USAGE, 2),
+    (&["generate", "18446744073709551616", "200"], 0, &USAGE, 2),
     (&["catchpoint", "g", "b", "640"], 0, &USAGE, 2),
     (&["catchup", "g", "640#"], 0, &USAGE, 2),
     (&["label", "640"], 0, &USAGE, 2),

@@ -10,6 +10,8 @@ mod common;
 #[cfg(test)]
 mod endings;
 #[cfg(test)]
+mod generated;
+#[cfg(test)]
 mod lookback;
 #[cfg(test)]
 mod payments;
