@@ -1,11 +1,11 @@
 -- What is so of the state after the first blocks of a generated chain.
-use Rattle.std.proofs.Common.{◌≡◌, ◌+◌, ◌*◌, ◌≤◌, ◌<◌, ◌^◌, ℕ, zero, suc, List, [], ◌∷◌, ◌++◌, length, map, replicate, refl, ap, arith, subst, sym, ◌∙◌, Result, Ok, Err, true}
+use Rattle.std.proofs.Common.{◌≡◌, ◌+◌, ◌*◌, ◌≤◌, ◌<◌, ◌^◌, ℕ, zero, suc, List, [], ◌∷◌, ◌++◌, length, map, replicate, refl, ap, arith, subst, sym, ◌∙◌, Result, Ok, Err}
 use Rattle.std.specs.List.{AllByRecursion}
 use Rattle.std.proofs.lemmas.List.{length-append}
 use Rattle.std.proofs.lemmas.List.Elements.{recursion_from_All}
 use Rattle.al_block.specs.declared.block.Block.{Block}
 use Rattle.al_block.specs.declared.header.Header.{Header}
-use Rattle.al_block.specs.Ranges.{BlockRanges, HeaderRanges}
+use Rattle.al_block.specs.Ranges.{BlockRanges}
 use Rattle.al_bodies.specs.Ranges.{IsArray}
 use Rattle.al_digest.specs.Digests.{digest_of, prefix_of}
 use Rattle.al_digest.specs.declared.hashing.Prefix.{Prefix}

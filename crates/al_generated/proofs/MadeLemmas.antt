@@ -1,5 +1,5 @@
 -- A chain that is made goes on.
-use Rattle.std.proofs.Common.{◌≡◌, ◌+◌, ◌≤◌, ◌<◌, ◌^◌, ℕ, suc, List, [], ◌∷◌, ◌++◌, length, refl, ap, arith, subst, sym, ◌∙◌, Result, Ok, Err, IfOk, OnOk}
+use Rattle.std.proofs.Common.{◌≡◌, ◌+◌, ◌≤◌, ◌<◌, ◌^◌, ℕ, suc, List, [], ◌∷◌, ◌++◌, length, ap, arith, subst, sym, ◌∙◌, Result, Ok, Err, IfOk, OnOk}
 use Rattle.al_block.specs.Ranges.{BlockRanges}
 use Rattle.al_block.specs.declared.block.Block.{Block}
 use Rattle.al_eval.specs.State.{State, replay}
@@ -7,7 +7,7 @@ use Rattle.al_generated.specs.Chain.{generated_blocks, items_behind, origin, pro
 use Rattle.al_generated.specs.Making.{IsMade, IsMaking}
 use Rattle.al_generated.specs.Summary.{summary}
 use Rattle.al_generator.specs.Draws.{begin}
-use Rattle.al_generated.proofs.ChainLemmas.{IsLedTo, and_next, few_items, led, next_fits, none_yet}
+use Rattle.al_generated.proofs.ChainLemmas.{IsLedTo, and_next, led, next_fits, none_yet}
 use Rattle.al_generator.specs.Genesis.{generated_genesis}
 use Rattle.al_generator.specs.Items.{items_of}
 use Rattle.al_generator.specs.Turns.{block}

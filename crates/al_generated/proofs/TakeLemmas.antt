@@ -1,5 +1,5 @@
 -- A block in its ranges whose spelling is taken is the one that is taken.
-use Rattle.std.proofs.Common.{inl, inr, ◌≡◌, ◌+◌, ◌<◌, ℕ, suc, List, [], ◌∷◌, ◌++◌, length, ap, arith, subst, sym, ◌∙◌, Ok, None}
+use Rattle.std.proofs.Common.{inl, inr, ◌≡◌, ◌<◌, ℕ, suc, List, [], ◌∷◌, ◌++◌, length, ap, arith, subst, sym, ◌∙◌, Ok, None}
 use Rattle.std.proofs.lemmas.List.{length-append}
 use Rattle.al_block.specs.Block.{IsBlock, block, block_fault}
 use Rattle.al_block.specs.Ranges.{BlockRanges}

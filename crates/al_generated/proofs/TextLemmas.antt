@@ -1,5 +1,5 @@
 -- The lines of a summary.
-use Rattle.std.proofs.Common.{◌≡◌, ◌+◌, ℕ, List, [], ◌∷◌, ◌++◌, length, take, ap, arith, sym, ◌∙◌, codes, Ok, Option, Some}
+use Rattle.std.proofs.Common.{◌≡◌, ℕ, List, ◌++◌, length, take, ap, arith, sym, ◌∙◌, codes, Ok, Option, Some}
 use Rattle.std.proofs.lemmas.List.{append_assoc, take_all}
 use Rattle.al_answers.specs.Answers.{sum_of}
 use Rattle.al_block.specs.Hashes.{header_hash_of}
@@ -10,7 +10,7 @@ use Rattle.al_rewards.specs.declared.totals.Totals.{Totals}
 use Rattle.al_rows.specs.Rows.{bare}
 use Rattle.al_generated.specs.Summary.{line, number_line, summary}
 use Rattle.al_states.specs.Held.{Held, money_in}
-use Rattle.al_states.specs.Looking.{LooksAt, ShowsSupply}
+use Rattle.al_states.specs.Looking.{ShowsSupply}
 use Rattle.al_states.specs.Rounds.{hash_after, of_state, totals_after}
 use Rattle.al_states.specs.declared.looking.SupplyAnswer.{SupplyAnswer}
 

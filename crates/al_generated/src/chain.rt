@@ -105,9 +105,9 @@ fn chain(alloc: Global, number: u64, blocks: u64) -> Result<States, GenerateRefu
 ///
 /// # Errors
 ///
-/// `Refused` where a block of it was refused, which comes only where two different transactions
-/// within 10 rounds have one id, or the account of an application is the sink or the pool;
-/// `Memory` for want of memory.
+/// `Refused` where a block of it was refused; the step takes each block, unless two different
+/// transactions within 10 rounds have one id, or the account of an application is the sink or the
+/// pool (`al_taken`). `Memory` for want of memory.
 pub fn generate(alloc: Global, number: u64, blocks: u64) -> Result<Vec<u8>, GenerateRefusal>
     requires { blocks ≤ 100000 }
     ensures { IfOk result (λ text. (s : State) × (replay origin (generated_blocks number blocks) ≡ Ok s) × (text.items ≡ summary blocks s)) }

@@ -1,5 +1,5 @@
 -- The genesis of the generated chains is a good one.
-use Rattle.std.proofs.Common.{◌≡◌, ◌<◌, ◌≤◌, ◌+◌, ◌^◌, ℕ, zero, suc, true, false, codes, List, [], ◌∷◌, length, map, replicate, None, refl, sym, ap, ◌∙◌, arith, lit<, lit≤}
+use Rattle.std.proofs.Common.{◌≡◌, ◌<◌, ◌≤◌, ◌+◌, ℕ, zero, suc, codes, [], ◌∷◌, map, replicate, refl, arith, lit<, lit≤}
 use Rattle.std.specs.List.{AllByRecursion, range_with_len}
 use Rattle.std.proofs.lemmas.List.{length-replicate}
 use Rattle.al_base.specs.declared.account.Status.{Status}
@@ -14,7 +14,7 @@ use Rattle.al_bodies.proofs.Ranged.{AllRanged, are_short, array_32, array_64, ra
 use Rattle.al_bodies.proofs.RangedBodies.{list_canonical, list_sound}
 use Rattle.al_rows.specs.Limits.{max_balance}
 use Rattle.al_genesis.specs.declared.genesis_fields.FirstAccount.{FirstAccount}
-use Rattle.al_genesis.specs.Genesis.{IsGenesis, IsGood, account, account_fields, addresses_of, balance_of, genesis, genesis_fields, has_both, has_poor, least_balance, money_of, row, row_fields}
+use Rattle.al_genesis.specs.Genesis.{IsGenesis, IsGood, account, account_fields, balance_of, genesis_fields, money_of, row, row_fields}
 use Rattle.al_generator.specs.declared.genesis.Opening.{Opening}
 use Rattle.al_generator.specs.Genesis.{first_account, generated_bytes, generated_genesis, generated_record, pool, pool_opening, sink, sink_opening, status_number, user_opening}
 

@@ -1,8 +1,7 @@
 -- What a generator draws is in the ranges of its record.
-use Rattle.std.proofs.Common.{◌≡◌, ◌<◌, ◌≤◌, ◌+◌, ◌*◌, ◌/◌, ◌%◌, ◌^◌, ◌==◌, ◌++◌, ℕ, zero, suc, true, false, Bool, nat_lt, List, [], ◌∷◌, if◌then◌else◌, length, map, replicate, take, Option, Some, None, IfSome, refl, sym, ap, ◌∙◌, arith, subst, lit<, lit≤}
-use Rattle.std.specs.Int.{w64}
+use Rattle.std.proofs.Common.{◌≡◌, ◌<◌, ◌≤◌, ◌+◌, ◌*◌, ◌%◌, ◌^◌, ◌==◌, ◌++◌, ℕ, zero, suc, true, false, Bool, nat_lt, List, [], ◌∷◌, if◌then◌else◌, length, Option, Some, None, IfSome, refl, arith, lit<, lit≤}
 use Rattle.std.specs.List.{AllByRecursion}
-use Rattle.std.proofs.lemmas.List.{length-append, length-map, length-replicate}
+use Rattle.std.proofs.lemmas.List.{length-append, length-map}
 use Rattle.std.proofs.lemmas.List.Elements.{recursion_from_All}
 use Rattle.al_base.specs.Keys.{number_bytes}
 use Rattle.al_base.specs.declared.address.Address.{Address}
@@ -12,15 +11,13 @@ use Rattle.al_digest.specs.Digests.{digest_of, prefix_of}
 use Rattle.al_digest.specs.declared.hashing.Prefix.{Prefix}
 use Rattle.al_digest.specs.declared.hashing.Prefix.TheVariants as prefixes
 use Rattle.al_digest.proofs.Readings.{digest_are_bytes}
-use Rattle.al_moves.specs.Resources.{app_account}
-use Rattle.al_msgpack.specs.Grammar.{AreBytes}
 use Rattle.al_record.specs.Laws.{IsShort}
 use Rattle.al_txn.specs.Ranges.{ItemRanges, most_beside}
-use Rattle.al_generator.specs.Draws.{after_draw, after_hand, begin, drawn, hand, next, user}
+use Rattle.al_generator.specs.Draws.{after_draw, after_hand, drawn, hand, next, user}
 use Rattle.al_generator.specs.Fits.{BlockFits, DrawsFit, IsWithin}
-use Rattle.al_generator.specs.Genesis.{generated_bytes, generated_genesis}
+use Rattle.al_generator.specs.Genesis.{generated_bytes}
 use Rattle.al_generator.specs.Items.{body_of, box_name, effects_of, item_of, items_of, zeros}
-use Rattle.al_generator.specs.Turns.{Turn, act, block, called, counted, created, founded, made, opted, paid, registered, single, turn, turns}
+use Rattle.al_generator.specs.Turns.{Turn, act, block, called, counted, created, founded, opted, paid, registered, single, turn, turns}
 use Rattle.al_generator.specs.declared.progress.Hand.{Hand}
 use Rattle.al_generator.specs.declared.progress.Progress.{Progress}
 use Rattle.al_generator.specs.declared.turns.Action.{Action}

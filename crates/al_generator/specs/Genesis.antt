@@ -1,5 +1,5 @@
 -- The genesis of each generated chain.
-use Rattle.std.specs.Prelude.{◌^◌, ℕ, List, [], ◌∷◌, codes, map, replicate}
+use Rattle.std.specs.Prelude.{ℕ, List, ◌∷◌, codes, map, replicate}
 use Rattle.std.specs.List.{range_with_len}
 use Rattle.std.proofs.Common.{lit≤}
 use Rattle.al_base.specs.declared.account.Status.{Status}

@@ -1,12 +1,11 @@
 -- The block that comes next is made of the state after the last one.
-use Rattle.std.proofs.Common.{◌≡◌, ◌+◌, ◌-◌, ◌≤◌, ◌<◌, ◌^◌, ℕ, suc, List, [], length, min, take, refl, sym, ap, ap₂, ◌∙◌, arith, subst, Ok, Err, Result, Option, Some, None, option_map}
+use Rattle.std.proofs.Common.{◌≡◌, ◌+◌, ◌-◌, ◌≤◌, ◌<◌, ◌^◌, ℕ, List, [], length, min, take, sym, ap, ap₂, ◌∙◌, arith, Ok, Result, Option, option_map}
 use Rattle.std.specs.FinMap.{get}
 use Rattle.std.proofs.lemmas.List.{take_all}
 use Rattle.al_base.specs.declared.address.Address.{Address}
 use Rattle.al_base.specs.declared.account.Status.TheVariants.{Offline, Online}
 use Rattle.al_base.specs.declared.key.Key.TheVariants as keys
 use Rattle.al_block.specs.declared.block.Block.{Block}
-use Rattle.al_block.specs.declared.header.Header.{Header}
 use Rattle.al_block.specs.Hashes.{header_hash_of, payset_hash_of}
 use Rattle.al_eval.specs.Pool.{rewards_of}
 use Rattle.al_eval.specs.State.{State, counts_in, replay, row_at, row_in}
@@ -26,7 +25,7 @@ use Rattle.al_rows.proofs.Maps.{get-map_entries}
 use Rattle.al_rows.proofs.Keys.{exact_keys}
 use Rattle.al_txn.specs.declared.txn.Item.{Item}
 use Rattle.al_states.specs.declared.states.States.{States}
-use Rattle.al_states.specs.Due.{due_block, due_header, next_due}
+use Rattle.al_states.specs.Due.{due_block, next_due}
 use Rattle.al_states.specs.Keeping.{IsStates, held}
 use Rattle.al_states.proofs.KeepLemmas.{last_state, led_to_last}
 use Rattle.al_states.proofs.SoundLemmas.{last_consistent}

@@ -1,4 +1,4 @@
-use Rattle.std.proofs.Common.{◌≡◌, inl, subst, sym, ap, ◌∙◌, Err}
+use Rattle.std.proofs.Common.{inl, subst, sym, ap, ◌∙◌, Err}
 use Rattle.al_answers.specs.Answers.{IsSound}
 use Rattle.al_answers.specs.declared.answer.Answer.{Answer}
 use Rattle.al_states.specs.Keeping.{held}
