@@ -1,31 +1,26 @@
 -- What is so of the state after the first blocks of a generated chain.
-use Rattle.std.proofs.Common.{◌≡◌, ◌+◌, ◌*◌, ◌≤◌, ◌<◌, ◌^◌, ℕ, zero, suc, List, [], ◌∷◌, ◌++◌, length, map, replicate, refl, ap, arith, subst, sym, ◌∙◌, Result, Ok, Err}
-use Rattle.std.specs.List.{AllByRecursion}
+use Rattle.std.proofs.Common.{◌≡◌, ◌+◌, ◌*◌, ◌≤◌, ◌<◌, ◌^◌, ℕ, zero, suc, List, [], ◌∷◌, ◌++◌, append-nil, length, map, refl, ap, arith, lit<, subst, sym, ◌∙◌, Result, Ok, Err}
 use Rattle.std.proofs.lemmas.List.{length-append}
-use Rattle.std.proofs.lemmas.List.Elements.{recursion_from_All}
 use Rattle.al_block.specs.declared.block.Block.{Block}
 use Rattle.al_block.specs.declared.header.Header.{Header}
 use Rattle.al_block.specs.Ranges.{BlockRanges}
 use Rattle.al_bodies.specs.Ranges.{IsArray}
-use Rattle.al_digest.specs.Digests.{digest_of, prefix_of}
-use Rattle.al_digest.specs.declared.hashing.Prefix.{Prefix}
 use Rattle.al_digest.specs.declared.hashing.Prefix.TheVariants as prefixes
 use Rattle.al_block.specs.Header.{header}
 use Rattle.al_msgpack.specs.Spelled.{spelled}
 use Rattle.al_msgpack.specs.declared.val.Val.TheVariants as values
 use Rattle.al_txn.specs.Item.{item}
-use Rattle.al_digest.proofs.Readings.{digest_are_bytes}
 use Rattle.al_eval.specs.State.{State, replay, step}
 use Rattle.al_eval.specs.Steps.{Refusal}
 use Rattle.al_eval.proofs.Chains.{after_step}
 use Rattle.al_generated.specs.Chain.{generated_blocks, items_behind, next_block, origin, progress_after}
 use Rattle.al_generator.specs.Fits.{IsWithin}
 use Rattle.al_generator.specs.Genesis.{generated_genesis}
-use Rattle.al_generator.proofs.RangeLemmas.{draws}
+use Rattle.al_generator.proofs.Good.{array_of}
+use Rattle.al_generator.proofs.RangeLemmas.{digest_array, draws}
 use Rattle.al_overlay.specs.Rules.{then_do}
 use Rattle.al_states.specs.Due.{RewardsFit, due_block, due_header}
 use Rattle.al_txn.specs.declared.chain.Chain.{Chain}
-use Rattle.sha2.specs.Sha512.{sha512_256}
 
 -- ---- replay
 
@@ -37,10 +32,6 @@ joined (Err e) bs cs h = refl
 replay-append : (o : State) (bs cs : List Block) → replay o (bs ++ cs) ≡ then_do (replay o bs) (λ t. replay t cs)
 replay-append o [] cs = refl
 replay-append o (b ∷ bs) cs = joined (step o b) bs cs (λ t. replay-append t bs cs)
-
-none_behind : (bs : List Block) → bs ++ [] ≡ bs
-none_behind [] = refl
-none_behind (b ∷ bs) = ap (λ xs. b ∷ xs) (none_behind bs)
 
 ok_or : (s : State) (e : Refusal) → ◌≡◌ {A = Result State Refusal} (Err e) (Ok s) → ⊥
 ok_or s e h = absurd cc
@@ -61,7 +52,7 @@ last_of number n s bs (Ok t) at e =
     let x : then_do (replay origin bs) (λ u. replay u (due ∷ [])) ≡ Ok s = sym (replay-append origin bs (due ∷ [])) ∙ e in
     let y : replay t (due ∷ []) ≡ Ok s = ap (λ q. then_do q (λ u. replay u (due ∷ []))) (sym at) ∙ x in
     (t, refl, alone s (step t due) y)
-last_of number n s bs (Err x) at e = absurd (ok_or s x (sym at ∙ ap (replay origin) (sym (none_behind bs)) ∙ e))
+last_of number n s bs (Err x) at e = absurd (ok_or s x (sym at ∙ ap (replay origin) (sym (append-nil bs)) ∙ e))
 
 pub last_step : (number n : ℕ) (s : State) → replay origin (generated_blocks number (suc n)) ≡ Ok s → LastStep number n s
 unfolding generated_blocks
@@ -132,13 +123,6 @@ led number (suc n) s few e =
 
 -- ---- the next block is in its ranges
 
-equal_bytes : (n b : ℕ) → b < 256 → AllByRecursion (λ x. x < 256) (replicate n b)
-equal_bytes zero b h = tt
-equal_bytes (suc n) b h = (h, equal_bytes n b h)
-
-digest_fits : (p : Prefix) (bytes : List ℕ) → IsArray 32 (digest_of p bytes)
-digest_fits p bytes = (let d = digest_are_bytes (prefix_of p ++ bytes) in (recursion_from_All (λ b. b < 256) (sha512_256 (prefix_of p ++ bytes)) d.1, d.0))
-
 pub few_items : (number n : ℕ) (s : State) → n < 2 ^ 50 → IsLedTo number n s → length (items_behind number n) ≤ 8
 few_items number n s few l = (next_progress number n few l.count l.within).few
 
@@ -149,17 +133,17 @@ next_fits number n s few l rewards =
     record {
       front = record {
         round = (let r = l.round in omega (arith, r, few));
-        prev = digest_fits prefixes.Header (spelled (values.Map (header.write s.header)));
+        prev = digest_array prefixes.Header (spelled (values.Map (header.write s.header)));
         ts = omega arith;
         genesis_hash = subst (λ (c : Chain). IsArray 32 c.hash) (sym l.chain) draws.hash;
-        sink = subst (λ (c : Chain). IsArray 32 c.special.sink.0) (sym l.chain) (equal_bytes 32 1 (omega arith), refl);
-        pool = subst (λ (c : Chain). IsArray 32 c.special.pool.0) (sym l.chain) (equal_bytes 32 2 (omega arith), refl);
+        sink = subst (λ (c : Chain). IsArray 32 c.special.sink.0) (sym l.chain) (array_of 32 1 (lit< tt));
+        pool = subst (λ (c : Chain). IsArray 32 c.special.pool.0) (sym l.chain) (array_of 32 2 (lit< tt));
         level = rewards.level;
         rate = rewards.rate;
         residue = rewards.residue;
         recalc = rewards.recalc;
         counter = (let c = l.counter in let m = l.count in omega (arith, c, m, few, few8));
-        payset = digest_fits prefixes.Payset (spelled (values.List (map (λ es. values.Map es) (map item.write (items_behind number n)))));
+        payset = digest_array prefixes.Payset (spelled (values.List (map (λ es. values.Map es) (map item.write (items_behind number n)))));
         few = omega arith;
         expired = tt;
         apart = refl;

@@ -28,7 +28,7 @@ use Rattle.sha2.specs.Sha512.{sha512_256}
 
 -- ---- bytes
 
-digest_array : (p : Prefix) (bytes : List ℕ) → IsArray 32 (digest_of p bytes)
+pub digest_array : (p : Prefix) (bytes : List ℕ) → IsArray 32 (digest_of p bytes)
 digest_array p bytes = (let d = digest_are_bytes (prefix_of p ++ bytes) in (recursion_from_All (λ b. b < 256) (sha512_256 (prefix_of p ++ bytes)) d.1, d.0))
 
 number_array : (n : ℕ) → IsArray 8 (number_bytes n)

@@ -1,4 +1,4 @@
--- The block that comes next with these transactions, and is all that the step demands of its header: nobody is expired in it, and none of the transactions has inner ones.
+-- The block of the next round with given transactions, none of which has inner ones: its header is what the step demands of it, and nobody is expired in it.
 use Rattle.std.specs.Prelude.{◌<◌, ◌^◌, ℕ, ◌+◌, List, [], length}
 use Rattle.al_block.specs.declared.block.Block.{Block}
 use Rattle.al_block.specs.declared.header.Header.{Header}
@@ -32,6 +32,7 @@ due_header s ts items = record {
   expired = [];
 }
 
+-- the block of that header and these transactions
 abbrev pub due_block : State → ℕ → List Item → Block
 due_block s ts items = record { header = due_header s ts items; items = items }
 

@@ -1,5 +1,5 @@
 -- Each block of a generated chain is taken, or a clash is shown.
-use Rattle.std.proofs.Common.{◌≡◌, ◌∙◌, ◌≤◌, ◌<◌, ◌+◌, ℕ, zero, suc, refl, sym, ap, ap₂, subst, arith, List, [], ◌∷◌, ◌++◌, append-nil, length, map, Bool, true, false, true≢false, ◌||◌, ◌⊎◌, inl, inr, Result, Ok, Err, lit<, lit≤}
+use Rattle.std.proofs.Common.{◌≡◌, ◌∙◌, ◌≤◌, ◌<◌, ◌+◌, ℕ, zero, suc, refl, sym, ap, ap₂, subst, arith, List, [], ◌∷◌, ◌++◌, length, map, Bool, true, false, true≢false, ◌||◌, ◌⊎◌, inl, inr, Result, Ok, Err, lit<, lit≤}
 use Rattle.std.proofs.lemmas.List.{length-map}
 use Rattle.std.proofs.lemmas.List.Elements.{All-from_recursion}
 use Rattle.std.specs.Cmp.Lexicographic.{same_text}
@@ -28,7 +28,8 @@ use Rattle.al_tail.specs.Past.{entry_of}
 use Rattle.al_txn.specs.declared.chain.Chain.{Chain}
 use Rattle.al_txn.specs.declared.txn.Item.{Item}
 use Rattle.al_txn.specs.declared.txn.Txn.{Txn}
-use Rattle.al_generated.specs.Chain.{generated_blocks, items_behind, next_block, origin, progress_after}
+use Rattle.al_generated.proofs.ChainLemmas.{LastStep, last_step, none_yet}
+use Rattle.al_generated.specs.Chain.{generated_blocks, items_behind, origin, progress_after}
 use Rattle.al_states.specs.Due.{due_block}
 use Rattle.al_taken.specs.Taken.{Clash, GeneratedIsTaken, HasOneId, IsSpecial}
 use Rattle.al_taken.proofs.Standings.{is_special, is_user}
@@ -221,14 +222,6 @@ advance number n s soon behind = by_apart (apart_or (suc (progress_after number 
 
 -- ---- the chain
 
-replay_last : (s : State) (bs : List Block) (b : Block) → replay s (bs ++ b ∷ []) ≡ then_do (replay s bs) (λ t. then_do (step t b) (λ u. Ok u))
-replay_last s [] b = refl
-replay_last s (a ∷ bs) b = by_step (step s a) (λ t. replay_last t bs b)
-  where
-    by_step : (r : Result State Refusal) → ((t : State) → replay t (bs ++ b ∷ []) ≡ then_do (replay t bs) (λ u. then_do (step u b) (λ v. Ok v))) → then_do r (λ t. replay t (bs ++ b ∷ [])) ≡ then_do (then_do r (λ t. replay t bs)) (λ t. then_do (step t b) (λ u. Ok u))
-    by_step (Ok t) f = f t
-    by_step (Err e) f = refl
-
 ok_is : (s t : State) → ◌≡◌ {A = Result State Refusal} (Ok s) (Ok t) → s ≡ t
 ok_is s t e = cc
 
@@ -245,30 +238,16 @@ starts number = record {
 }
 
 behind_or : (number n : ℕ) (s : State) → n ≤ 100000 → replay origin (generated_blocks number n) ≡ Ok s → Behind number n s ⊎ Clash number n
-unfolding generated_blocks
-behind_or number zero s l e = inl (subst (Behind number 0) (ok_is origin s e) (starts number))
-behind_or number (suc n) s l e = by_before (replay origin (generated_blocks number n)) refl (λ t. behind_or number n t (omega arith)) e
+behind_or number zero s l e = inl (subst (Behind number 0) (ok_is origin s (sym (ap (replay origin) (none_yet number)) ∙ e)) (starts number))
+behind_or number (suc n) s l e = by_last (last_step number n s e) (behind_or number n (last_step number n s e).before (omega (arith, l)) (last_step number n s e).replayed)
   where
-    bs : List Block
-    bs = generated_blocks number n
+    by_next : (x : LastStep number n s) → Next number n x.before → Behind number (suc n) s ⊎ Clash number (suc n)
+    by_next x (inl next) = inl (subst (Behind number (suc n)) (ok_is next.0 s (sym next.1 ∙ x.stepped)) next.2)
+    by_next x (inr clash) = inr clash
 
-    by_step : (t : State) → replay origin (generated_blocks number n) ≡ Ok t → replay origin (generated_blocks number n ++ due_block t 0 (items_behind number n) ∷ []) ≡ Ok s → Behind number n t ⊎ Clash number n → Behind number (suc n) s ⊎ Clash number (suc n)
-    by_step t is e (inr clash) = inr (clash_more number n clash)
-    by_step t is e (inl behind) = by_next (advance number n t (omega arith) behind)
-      where
-        by_next : Next number n t → Behind number (suc n) s ⊎ Clash number (suc n)
-        by_next (inr clash) = inr clash
-        by_next (inl next) =
-            let b = due_block t 0 (items_behind number n) in
-            let same : ◌≡◌ {A = Result State Refusal} (Ok next.0) (Ok s) =
-            sym (ap (λ (r : Result State Refusal). then_do r (λ u. Ok u)) next.1) ∙ sym (ap (λ (r : Result State Refusal). then_do r (λ u. then_do (step u b) (λ v. Ok v))) is) ∙ sym (replay_last origin (generated_blocks number n) b) ∙ e in
-            inl (subst (Behind number (suc n)) (ok_is next.0 s same) next.2)
-
-    by_before : (r : Result State Refusal) → replay origin (generated_blocks number n) ≡ r → ((t : State) → replay origin (generated_blocks number n) ≡ Ok t → Behind number n t ⊎ Clash number n) → replay origin (generated_blocks number n ++ next_block number n r) ≡ Ok s → Behind number (suc n) s ⊎ Clash number (suc n)
-    by_before (Ok t) is before e = by_step t is e (before t is)
-    by_before (Err x) is before e =
-        let same : ◌≡◌ {A = Result State Refusal} (Err x) (Ok s) = sym is ∙ sym (ap (replay origin) (append-nil (generated_blocks number n))) ∙ e in
-        absurd (let z : ◌≡◌ {A = Result State Refusal} (Err x) (Ok s) = same in cc)
+    by_last : (x : LastStep number n s) → Behind number n x.before ⊎ Clash number n → Behind number (suc n) s ⊎ Clash number (suc n)
+    by_last x (inl behind) = by_next x (advance number n x.before (omega (arith, l)) behind)
+    by_last x (inr clash) = inr (clash_more number n clash)
 
 pub generated_is_taken : GeneratedIsTaken
 generated_is_taken number n s soon e = by_behind (behind_or number n s (omega (arith, soon)) e)
