@@ -4,3 +4,4 @@ pub mod Same
 pub mod Meaning
 pub mod Ranged
 pub mod Within
+pub mod Alike
