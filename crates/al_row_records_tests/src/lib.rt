@@ -3,4 +3,8 @@
 #![tactic(auto)]
 
 #[cfg(test)]
+mod elements;
+#[cfg(test)]
+mod keys;
+#[cfg(test)]
 mod rows;

@@ -1,24 +1,10 @@
 //! Rows from bytes and back, and every fault.
-use al_base::{Address, AssetParams, BoxName, Bytes, Key, Status};
+use crate::keys::{ACCOUNT, BOX, RESOURCE, key};
+use al_base::{Address, AssetParams, Bytes, Status};
 use al_row_records::{RowFault, decode_row, encode_row};
 use al_rows::{AccountRow, AppParams, AppRow, AssetRow, BoxRow, Holding, Local, Row};
 use std::alloc::{AllocError, Global};
 use std::test::*;
-
-const ACCOUNT: u8 = 0;
-
-const RESOURCE: u8 = 1;
-
-const BOX: u8 = 2;
-
-/// A key of a kind.
-fn key(kind: u8) -> Option<Key> {
-    match kind {
-        0 => Some(Key::Account(Address([9; 32]))),
-        1 => Some(Key::Resource(Address([9; 32]), 258)),
-        _ => Some(Key::Box(258, BoxName::new(b"name")?)),
-    }
-}
 
 /// Whether this is the fault of this number, at the field of this name.
 fn is_fault(fault: &RowFault, number: u8, name: &str) -> bool {
