@@ -1,8 +1,13 @@
+//! Catchpoints: the labels that commit to a state of the ledger, and the files that hold it.
 #![tactic(auto)]
 
+mod files;
 mod label;
+mod laws;
 mod number;
 mod parsing;
 
+pub use files::CatchFile;
 pub use label::{Label, LabelFault, label_of, label_text};
+pub use laws::own_names;
 pub use parsing::parse_label;
