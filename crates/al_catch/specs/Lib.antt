@@ -1,2 +1,3 @@
 pub mod Labels
 pub mod Files
+pub mod Records

@@ -1,13 +1,17 @@
 //! Catchpoints: the labels that commit to a state of the ledger, and the files that hold it.
 #![tactic(auto)]
 
+mod chunk;
 mod files;
+mod info;
 mod label;
 mod laws;
 mod number;
 mod parsing;
 
+pub use chunk::{Chunk, ChunkRow, ChunkRows, encode_chunk};
 pub use files::CatchFile;
+pub use info::{CatchInfo, encode_info};
 pub use label::{Label, LabelFault, label_of, label_text};
 pub use laws::own_names;
 pub use parsing::parse_label;
