@@ -1,3 +1,5 @@
 pub mod Labels
 pub mod Files
 pub mod Records
+pub mod Decoding
+pub mod Ranges

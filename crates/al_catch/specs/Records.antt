@@ -1,8 +1,7 @@
 -- The records in the files of a catchpoint.
-use Rattle.std.specs.Prelude.{◌≡◌, ◌-◌, ◌^◌, ℕ, map, codes, List, [], ◌∷◌, Option, None}
+use Rattle.std.specs.Prelude.{◌-◌, ◌^◌, map, codes, List, [], ◌∷◌, Option, None}
 use Rattle.al_msgpack.specs.declared.val.Val.{Val}
 use Rattle.al_msgpack.specs.declared.val.Val.TheVariants as values
-use Rattle.al_msgpack.specs.Places.{IsSpelling}
 use Rattle.al_record.specs.Columns.{FieldOf, Format, bytes, list_put, number, record_field, records_field, table}
 use Rattle.al_rewards.specs.Record.{totals}
 use Rattle.al_catch.specs.declared.chunk.Chunk.{Chunk}

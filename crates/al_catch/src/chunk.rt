@@ -4,6 +4,7 @@ ghost use Rattle.al_msgpack.specs.declared.val.Val.TheVariants as values;
 ghost use Rattle.al_msgpack.specs.Spelled.{spelled};
 ghost use Rattle.al_record.specs.Code.{count_some, put_of};
 ghost use Rattle.al_record.specs.Columns.{number_put, put};
+ghost use Rattle.al_catch.specs.Decoding.{Holds};
 ghost use Rattle.al_catch.specs.Records.{chunk, row_fields, rows_put};
 
 use al_base::Bytes;
@@ -47,6 +48,7 @@ const ROW: [Column; 3] = [
 const CHUNK: [Column; 2] = [Column("k", Shape::Number), Column("rows", Shape::List)];
 
 impl Record for ChunkRow {
+    ghost use Rattle.al_catch.specs.Decoding.{Holds};
     ghost use Rattle.al_catch.specs.Records.{row};
 
     ghost format = { row };
@@ -127,6 +129,8 @@ fn count_rows(rows: &[ChunkRow]) -> usize
 /// or empty. Nothing is appended where memory is short.
 pub fn encode_chunk(c: &Chunk, out: &mut Vec<u8>) -> Result<(), AllocError>
     ensures bytes { OnOk result (out.new.items ≡ out.old.items ++ spelled (values.Map (chunk.write c.now))) }
+    // The bytes that it was decoded from.
+    ensures back { (input : List ℕ) → Holds chunk input c.now → OnOk result (out.new.items ≡ out.old.items ++ input) }
     ensures err { OnErr result (out.new.items ≡ out.old.items) }
 {
     encode_record(c, out)

@@ -1,10 +1,11 @@
 //! The record of what a catchpoint says of itself.
-ghost use Rattle.std.specs.Prelude.{◌≡◌, ◌++◌, map, IfOk, OnErr, OnOk};
+ghost use Rattle.std.specs.Prelude.{◌≡◌, ◌++◌, ℕ, List, map, IfOk, OnErr, OnOk};
 ghost use Rattle.al_msgpack.specs.declared.val.Val.TheVariants as values;
 ghost use Rattle.al_msgpack.specs.Spelled.{spelled};
 ghost use Rattle.al_record.specs.Code.{put_of};
 ghost use Rattle.al_record.specs.Columns.{put};
 ghost use Rattle.al_rewards.specs.Record.{totals, totals_fields};
+ghost use Rattle.al_catch.specs.Decoding.{Holds};
 ghost use Rattle.al_catch.specs.Records.{info};
 
 use al_msgpack::{Entries, Entry, Val, write};
@@ -100,6 +101,8 @@ fn contents<'a>(t: &'a Totals) -> [Content<'a>; 7]
 /// the totals `t`, each exactly where it is not zero. Nothing is appended where memory is short.
 pub fn encode_info(i: &CatchInfo, out: &mut Vec<u8>) -> Result<(), AllocError>
     ensures bytes { OnOk result (out.new.items ≡ out.old.items ++ spelled (values.Map (info.write i.now))) }
+    // The bytes that it was decoded from.
+    ensures back { (input : List ℕ) → Holds info input i.now → OnOk result (out.new.items ≡ out.old.items ++ input) }
     ensures err { OnErr result (out.new.items ≡ out.old.items) }
 {
     encode_record(i, out)

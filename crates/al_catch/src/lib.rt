@@ -2,6 +2,7 @@
 #![tactic(auto)]
 
 mod chunk;
+mod decoding;
 mod files;
 mod info;
 mod label;
@@ -10,8 +11,9 @@ mod number;
 mod parsing;
 
 pub use chunk::{Chunk, ChunkRow, ChunkRows, encode_chunk};
+pub use decoding::{FileFault, decode_chunk, decode_info};
 pub use files::CatchFile;
 pub use info::{CatchInfo, encode_info};
 pub use label::{Label, LabelFault, label_of, label_text};
-pub use laws::own_names;
+pub use laws::{own_names, record_laws};
 pub use parsing::parse_label;

@@ -1,4 +1,4 @@
-use Rattle.std.proofs.Common.{◌≡◌, ◌++◌, length, map, codes, [], sym, ap, ◌∙◌}
+use Rattle.std.proofs.Common.{codes, [], sym}
 use Rattle.std.proofs.lemmas.Result.{on_ok_weaker, on_err_weaker}
 use Rattle.al_msgpack.specs.Spelled.{map_head}
 use Rattle.al_record.specs.Columns.{number_put, with_entry}
