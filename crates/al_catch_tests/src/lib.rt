@@ -1,7 +1,9 @@
-//! Tests of labels and of the names of files, by public calls.
+//! Tests of labels and of the names and records of files, by public calls.
 #![tactic(auto)]
 
 #[cfg(test)]
 mod files;
 #[cfg(test)]
 mod labels;
+#[cfg(test)]
+mod records;
