@@ -1,6 +1,6 @@
 //! Labels.
-ghost use Rattle.std.specs.Prelude.{◌≡◌, IfOk, OnOk, Ok, length};
-ghost use Rattle.al_catch.specs.Labels.{label_of, label_string, label_text_of, number_of};
+ghost use Rattle.std.specs.Prelude.{◌≡◌, ◌≤◌, ◌^◌, IfOk};
+ghost use Rattle.al_catch.specs.Labels.{IsLabel, label_of, label_string, label_text_of, number_of};
 
 use al_base::{Bytes, Hash};
 use al_digest::{Prefix, TextFault, digest, hash_text};
@@ -68,7 +68,8 @@ pub fn label_of(
     root: &Hash,
     totals: &Totals,
 ) -> Result<Label, AllocError>
-    ensures { IfOk result (λ l. l ≡ label_of round (label_string block.now root.now totals.now)) }
+    ensures value { IfOk result (λ l. l ≡ label_of round (label_string block.now root.now totals.now)) }
+    ensures own { 1 ≤ round → round ≤ 2 ^ 62 → IfOk result IsLabel }
 {
     let mut string = Vec::new(alloc);
     string.extend_from_slice(block)?;
