@@ -1,0 +1,5 @@
+//! Tests of one connection, over public calls.
+#![tactic(auto)]
+
+#[cfg(test)]
+mod endless;
