@@ -27,6 +27,7 @@ pub use key_bytes::KeyBytes;
 pub use memory::{MemFolder, MemSink, MemSource};
 pub use name::BoxName;
 pub use online::{History, LevelAt, Levels, OnlineChange, OnlineChanges, OnlineData, Version};
+pub use plan::Plan;
 pub use quiet::{QuietFolder, QuietSink, QuietSource};
 pub use sink::Sink;
 pub use source::{Failed, Source};

@@ -17,6 +17,11 @@ pub struct Plan {
 }
 
 impl Plan {
+    /// No call yet. The calls of these numbers, counted from 1, will fail.
+    ///
+    /// # Errors
+    ///
+    /// Only where memory is short.
     pub fn new(alloc: Global, fails: &[u64]) -> Result<Plan, AllocError>
         ensures { IfOk result (λ plan. plan ≡ planned fails.now) }
     {
@@ -27,7 +32,11 @@ impl Plan {
         })
     }
 
-    /// Counts a call, which fails where its number is in the list.
+    /// Counts a call.
+    ///
+    /// # Errors
+    ///
+    /// `Failed` exactly where its number is in the list; the fault is counted.
     pub fn call(&mut self) -> Result<(), Failed>
         ensures plan { self.new ≡ called (is_err result) self.old }
         ensures fails { IsErr result ↔ Contains self.old.fails (counted self.old.calls) }

@@ -10,13 +10,21 @@ use Rattle.al_txn.specs.Item.{item}
 use Rattle.al_block.specs.declared.header.Header.{Header}
 use Rattle.al_block.specs.Header.{header}
 
--- the hash of a block: the digest of its header's spelling
-abbrev pub header_hash_of : Header → List ℕ
-header_hash_of h = digest_of prefixes.Header (spelled (values.Map (header.write h)))
+-- what the hash of a block is taken of: its header's spelling
+abbrev pub header_string : Header → List ℕ
+header_string h = spelled (values.Map (header.write h))
 
--- the digest of the spelling of the list of the entries' records
+-- the hash of a block
+abbrev pub header_hash_of : Header → List ℕ
+header_hash_of h = digest_of prefixes.Header (header_string h)
+
+-- what the digest of a payset is taken of: the spelling of the list of the entries' records
+abbrev pub payset_string : List Item → List ℕ
+payset_string items = spelled (values.List (map (λ es. values.Map es) (map item.write items)))
+
+-- the digest of a payset
 abbrev pub payset_hash_of : List Item → List ℕ
-payset_hash_of items = digest_of prefixes.Payset (spelled (values.List (map (λ es. values.Map es) (map item.write items))))
+payset_hash_of items = digest_of prefixes.Payset (payset_string items)
 
 -- how many entries at the front have this group id
 abbrev pub run : List ℕ → List Item → ℕ

@@ -7,14 +7,16 @@ ghost use Rattle.std.specs.Map.{lookup};
 ghost use Rattle.std.specs.BTreeMap.{IsOrdered, is_at};
 ghost use Rattle.al_base.specs.Keys.{key_cmp};
 ghost use Rattle.al_rows.specs.Finite.{or_below};
+ghost use Rattle.al_rows.specs.Above.{rows_above};
 ghost use Rattle.al_rows.specs.Rows.{IsKept, bare, creator_of};
 ghost use Rattle.al_deltas.specs.Index.{IsIndex, shows_params};
 ghost use Rattle.al_deltas.specs.Queue.{IsKeptDelta, after_delta, left_of, stored_at};
 
 use crate::RoundDelta;
+use crate::above::{bound_of, first_from};
 use crate::index::{Creators, follow, index_of};
 use al_base::{Address, Key};
-use al_rows::{Change, Row, RowView, Stored, StoredView, ViewFault};
+use al_rows::{Change, Row, RowView, Rows, Stored, StoredView, ViewFault};
 use std::alloc::{AllocError, Global};
 use std::collections::BTreeMap;
 use std::marker::Model;
@@ -102,6 +104,15 @@ impl KeptRows {
             Err(ViewFault::Failed(never)) => match never {},
             Err(ViewFault::Memory) => Err(AllocError),
         }
+    }
+
+    /// Copies of the first rows above a key, or of all, in the order of keys: at most so many.
+    /// Errors: no memory.
+    pub fn rows_above(&self, after: Option<&Key>, max: u32) -> Result<Rows, AllocError>
+        ensures { IfOk result (λ rows. rows ≡ rows_above (option_copied after.entry) max self.now) }
+    {
+        let _count = self.rows.len();
+        first_from(self.alloc, &self.rows, bound_of(after), max)
     }
 
     /// Puts the rows that a block leaves. A call that is refused has put a part of them: to put them

@@ -1,6 +1,7 @@
 //! What each block changes, the queue of what blocks change, and rows that follow it.
 #![tactic(auto)]
 
+mod above;
 mod delta;
 mod index;
 mod kept;

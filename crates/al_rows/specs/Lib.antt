@@ -1,3 +1,4 @@
 pub mod Finite
 pub mod Limits
 pub mod Rows
+pub mod Above

@@ -45,10 +45,14 @@ unfoldable pub each_byte : ℕ → ℕ → (ℕ → List ℕ) → List ℕ
 each_byte zero b f = []
 each_byte (suc n) b f = f b ++ each_byte n (suc b) f
 
+-- what the digest of the node of a path is taken of, by the digests of the nodes below it
+abbrev pub node_string : (List ℕ → Through) → (List ℕ → List ℕ) → List ℕ → List ℕ
+node_string of inner path = length path ∷ path ++ each_byte 256 0 (λ b. child path b (of (path ++ b ∷ [])) (inner (path ++ b ∷ [])))
+
 -- the digest of the node of a path, below which elements have at most n bytes
 unfoldable pub node : (List ℕ → Through) → ℕ → List ℕ → List ℕ
 node of zero path = []
-node of (suc n) path = node_digest_of (length path ∷ path ++ each_byte 256 0 (λ b. child path b (of (path ++ b ∷ [])) (node of n (path ++ b ∷ []))))
+node of (suc n) path = node_digest_of (node_string of (node of n) path)
 
 -- the root by what goes through the empty path: 32 zero bytes, a digest of the one element, or one of the top node's digest
 abbrev pub root_at : Through → List ℕ → List ℕ
