@@ -242,6 +242,7 @@ kept_newest chain first base newest newest2 deltas kept header hash totals tail 
   online = k.online;
   spelled = k.spelled;
   ranged = k.ranged;
+  since = k.since;
 }
 
 -- ---- one block more
@@ -303,6 +304,7 @@ more chain first base newest deltas kept header hash totals tail memory memory2 
       online = subst (λ n. Remembers memory2 snaps n snap) (sym long) remembered;
       spelled = All-push (λ (y : KeptBlock). IsBlock y.bytes.items y.block) kept next k.spelled spells;
       ranged = All-push (λ (y : KeptBlock). AreInRange y.block) kept next k.ranged x.ranged;
+      since = k.since;
     }
 
 pub kept_more : (chain : Chain) (first : Header) (base newest : StoredMap) (deltas deltas2 : Queue) (kept kept2 : List KeptBlock) (header header2 : Header) (hash : List ℕ) (totals : Totals) (tail tail2 : List Entry) (memory memory2 : Memory) (next : KeptBlock) (e : Evaluated)

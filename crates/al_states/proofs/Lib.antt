@@ -1,5 +1,7 @@
 pub mod MemoryLemmas
 pub mod KeepLemmas
+pub mod StoredLemmas
+pub mod CatchLemmas
 pub mod OpenLemmas
 pub mod ToldLemmas
 pub mod SoundLemmas

@@ -24,10 +24,11 @@ use Rattle.al_eval.specs.Sound.{AreInRange, Sound}
 use Rattle.al_rewards.specs.declared.totals.Totals.{Totals}
 use Rattle.al_states.specs.Keeping.{IsKeeping, origin_of, blocks_of}
 use Rattle.al_states.proofs.MemoryLemmas.{remembers_first}
+use Rattle.al_states.proofs.StoredLemmas.{AreStored}
 
-pub kept_first : (chain : Chain) (first header : Header) (rows : StoredMap) (hash : List ℕ) (totals : Totals) (memory : Memory) → first ≡ header → hash ≡ header_hash_of first → Sound (origin_of chain header rows) → header.counter ≤ 2 ^ 62 → totals ≡ counts_in (origin_of chain header rows) → memory ≡ record { base = 0; snaps = snap_of header.level (bare rows) ∷ [] }
+pub kept_first : (chain : Chain) (first header : Header) (rows : StoredMap) (hash : List ℕ) (totals : Totals) (memory : Memory) → first ≡ header → hash ≡ header_hash_of first → Sound (origin_of chain header rows) → header.counter ≤ 2 ^ 62 → totals ≡ counts_in (origin_of chain header rows) → memory ≡ record { base = 0; snaps = snap_of header.level (bare rows) ∷ [] } → AreStored rows
     → IsKeeping chain first rows rows (record { base = 0; deltas = []; totals = totals }) [] header hash totals [] memory
-kept_first chain first header rows hash totals memory e h sound few counted known = record {
+kept_first chain first header rows hash totals memory e h sound few counted known stored = record {
   past = [];
   snaps = insert empty 0 (snap_of header.level (bare rows));
   follows = ap (λ (x : Header). origin_of chain x rows) e;
@@ -43,12 +44,13 @@ kept_first chain first header rows hash totals memory e h sound few counted know
   online = remembers_first memory (snap_of header.level (bare rows)) known;
   spelled = All-nil (λ (k : KeptBlock). IsBlock k.bytes.items k.block);
   ranged = All-nil (λ (k : KeptBlock). AreInRange k.block);
+  since = stored;
 }
 
 pub kept_begun : (chain : Chain) (first header : Header) (base newest rows : StoredMap) (deltas : Queue) (hash : List ℕ) (totals : Totals) (kept : List KeptBlock) (tail : List Entry) (memory : Memory) → base ≡ rows → newest ≡ rows → deltas ≡ record { base = 0; deltas = []; totals = totals } → kept ≡ [] → tail ≡ []
-    → first ≡ header → hash ≡ header_hash_of first → Sound (origin_of chain header rows) → header.counter ≤ 2 ^ 62 → totals ≡ counts_in (origin_of chain header rows) → memory ≡ record { base = 0; snaps = snap_of header.level (bare rows) ∷ [] } → IsKeeping chain first base newest deltas kept header hash totals tail memory
-kept_begun chain first header base newest rows deltas hash totals kept tail memory b n d a t e h sound few counted known =
-    let x = kept_first chain first header rows hash totals memory e h sound few counted known in
+    → first ≡ header → hash ≡ header_hash_of first → Sound (origin_of chain header rows) → header.counter ≤ 2 ^ 62 → totals ≡ counts_in (origin_of chain header rows) → memory ≡ record { base = 0; snaps = snap_of header.level (bare rows) ∷ [] } → AreStored rows → IsKeeping chain first base newest deltas kept header hash totals tail memory
+kept_begun chain first header base newest rows deltas hash totals kept tail memory b n d a t e h sound few counted known stored =
+    let x = kept_first chain first header rows hash totals memory e h sound few counted known stored in
     let x1 = subst (λ (q : Queue). IsKeeping chain first rows rows q [] header hash totals [] memory) (sym d) x in
     let x2 = subst (λ (m : StoredMap). IsKeeping chain first rows m deltas [] header hash totals [] memory) (sym n) x1 in
     let x3 = subst (λ (m : StoredMap). IsKeeping chain first m newest deltas [] header hash totals [] memory) (sym b) x2 in

@@ -1,10 +1,11 @@
 -- What the states of a ledger keep: the rows at the origin, what each block changes, and the newest rows.
-use Rattle.std.specs.Prelude.{◌≡◌, ◌≤◌, ◌^◌, ℕ, List, [], ◌∷◌, length, map, All}
+use Rattle.std.specs.Prelude.{◌≡◌, ◌≤◌, ◌^◌, ℕ, List, [], ◌∷◌, length, map, All, IfSome}
 use Rattle.std.specs.FinMap.{get}
 use Rattle.std.specs.declared.result.Result.{Result}
 use Rattle.std.specs.declared.result.Result.TheVariants.{Ok, Err}
 use Rattle.std.specs.declared.option.Option.{Option}
 use Rattle.std.specs.declared.option.Option.TheVariants.{None, Some}
+use Rattle.al_base.specs.declared.key.Key.{Key}
 use Rattle.al_txn.specs.declared.chain.Chain.{Chain}
 use Rattle.al_txn.specs.declared.txn.Txn.{Txn}
 use Rattle.al_block.specs.declared.header.Header.{Header}
@@ -13,6 +14,7 @@ use Rattle.al_block.specs.Block.{IsBlock}
 use Rattle.al_block.specs.Hashes.{header_hash_of}
 use Rattle.al_deltas.specs.declared.delta.RoundDelta.{RoundDelta}
 use Rattle.al_deltas.specs.Queue.{Queue, StoredMap, IsKeptDelta, after_delta, creator_in, last_of, rows_after}
+use Rattle.al_rows.specs.Above.{IsStored}
 use Rattle.al_rows.specs.Finite.{or_below}
 use Rattle.al_rows.specs.Rows.{bare, creator_of}
 use Rattle.al_rewards.specs.declared.totals.Totals.{Totals}
@@ -68,7 +70,7 @@ pub record Remembers (memory : Memory) (snaps : Snaps) (round : ℕ) (last : Sna
   pub top_is : last_round memory ≡ round
   pub last_is : get snaps (last_round memory) ≡ Some last
 
--- What is kept is the states of the chain: the rows at the origin, what each block changes, what consensus may ask of each round, and what the next step begins with. The newest rows may lack what the last block changes, or a part of it: to put that once more gives the rows after the last block
+-- What is kept is the states of the chain: the rows at the origin, each of which may be stored, what each block changes, what consensus may ask of each round, and what the next step begins with. The newest rows may lack what the last block changes, or a part of it: to put that once more gives the rows after the last block
 pub record IsKeeping (chain : Chain) (first : Header) (base newest : StoredMap) (deltas : Queue) (kept : List KeptBlock) (header : Header) (hash : List ℕ) (totals : Totals) (tail : List Entry) (memory : Memory) : Type 0 where
   pub past : List Txn
   pub snaps : Snaps
@@ -85,6 +87,7 @@ pub record IsKeeping (chain : Chain) (first : Header) (base newest : StoredMap) 
   pub online : Remembers memory snaps (length (blocks_of kept)) (snap_of header.level (bare (rows_after deltas.deltas base)))
   pub spelled : All (λ k. IsBlock k.bytes.items k.block) kept
   pub ranged : All (λ k. AreInRange k.block) kept
+  pub since : (key : Key) → IfSome (get base key) (IsStored key)
 
 -- what the states of a ledger hold
 abbrev pub held : States → Held

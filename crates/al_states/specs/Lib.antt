@@ -7,3 +7,4 @@ pub mod Looking
 pub mod Showing
 pub mod Accepting
 pub mod Due
+pub mod Spellings

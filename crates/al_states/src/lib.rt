@@ -3,6 +3,7 @@
 
 mod accepting;
 mod answering;
+mod catching;
 mod keeping;
 mod looking;
 mod lookups;

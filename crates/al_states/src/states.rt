@@ -36,9 +36,9 @@ pub struct States {
     // What each block changes.
     pub(crate) deltas: Deltas,
     // The rows after the last block, which may lack what it changes.
-    newest: KeptRows,
+    pub(crate) newest: KeptRows,
     // The blocks.
-    kept: Vec<KeptBlock>,
+    pub(crate) kept: Vec<KeptBlock>,
     // What the next step begins with, and the transactions of the blocks.
     pub(crate) before: Before,
     tail: Tail,
