@@ -5,3 +5,6 @@ pub mod Straight
 pub mod Same
 pub mod Meaning
 pub mod Ranged
+pub mod StepLemmas
+pub mod ChunkLemmas
+pub mod TipLemmas

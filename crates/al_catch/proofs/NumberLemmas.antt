@@ -28,6 +28,9 @@ fits n most = omega (arith, most)
 pub decimal_digits : (n : ℕ) → n ≤ 2 ^ 62 → AreDigits (decimal n)
 decimal_digits n most = digits_decimal own n (fits n most)
 
+pub digits_of : (n : ℕ) → n < 2 ^ 64 → AreDigits (decimal n)
+digits_of n low = digits_decimal own n low
+
 pub digit_in_range : (c : ℕ) → is_ascii_digit c ≡ true → IsInRange 48 57 c
 digit_in_range c is = grind (arith, nat_tests)
 

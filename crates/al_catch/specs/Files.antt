@@ -25,3 +25,7 @@ IsFile file.Label = Unit {0}
 -- different files of one round have different names
 abbrev pub HaveOwnNames : Type 0
 HaveOwnNames = (round : ℕ) (f g : CatchFile) → IsFile f → IsFile g → name_of round f ≡ name_of round g → f ≡ g
+
+-- and so have files of different rounds, of 64 bits each
+abbrev pub HaveOwnFiles : Type 0
+HaveOwnFiles = (r s : ℕ) (f g : CatchFile) → r < 2 ^ 64 → s < 2 ^ 64 → IsFile f → IsFile g → name_of r f ≡ name_of s g → (r ≡ s) × (f ≡ g)

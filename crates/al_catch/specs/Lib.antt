@@ -3,3 +3,5 @@ pub mod Files
 pub mod Records
 pub mod Decoding
 pub mod Ranges
+pub mod Catching
+pub mod Steps

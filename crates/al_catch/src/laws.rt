@@ -1,12 +1,13 @@
 //! What holds of the names and the records of files.
 ghost use Rattle.al_catch.specs.Decoding.{SpellsOne};
-ghost use Rattle.al_catch.specs.Files.{HaveOwnNames};
+ghost use Rattle.al_catch.specs.Files.{HaveOwnFiles, HaveOwnNames};
 ghost use Rattle.al_catch.specs.Ranges.{SpellsChunks, SpellsInfos};
 ghost use Rattle.al_catch.specs.Records.{chunk, info};
 
-/// Different files of one round have different names.
+/// Different files of one round have different names, and so have files of different rounds.
 pub fn own_names()
-    ensures { HaveOwnNames }
+    ensures files { HaveOwnNames }
+    ensures rounds { HaveOwnFiles }
 {}
 
 /// Bytes spell the record of at most one chunk, and of at most one info file; and what is written

@@ -1,4 +1,4 @@
-//! Tests of labels and of the names and records of files, by public calls.
+//! Tests of labels, of the names and records of files, and of writing them, by public calls.
 #![tactic(auto)]
 
 #[cfg(test)]
@@ -7,3 +7,5 @@ mod files;
 mod labels;
 #[cfg(test)]
 mod records;
+#[cfg(test)]
+mod writing;
