@@ -5,7 +5,6 @@ use Rattle.al_block.specs.declared.block.Block.{Block}
 use Rattle.al_eval.specs.State.{State, replay}
 use Rattle.al_generated.specs.Chain.{generated_blocks, items_behind, origin, progress_after}
 use Rattle.al_generated.specs.Making.{IsMade, IsMaking}
-use Rattle.al_generated.specs.Summary.{summary}
 use Rattle.al_generator.specs.Draws.{begin}
 use Rattle.al_generated.proofs.ChainLemmas.{IsLedTo, and_next, led, next_fits, none_yet}
 use Rattle.al_generator.specs.Genesis.{generated_genesis}
@@ -20,7 +19,7 @@ use Rattle.al_states.proofs.KeepLemmas.{last_state, led_to_last}
 use Rattle.al_txn.specs.declared.txn.Item.{Item}
 
 -- the state that the blocks of a held chain lead to is that of the generated ones
-leads : (number n : ℕ) (s : States) (t : State) → held s ≡ record { origin = origin; blocks = generated_blocks number n } → replay (held s).origin (held s).blocks ≡ Ok t → replay origin (generated_blocks number n) ≡ Ok t
+pub leads : (number n : ℕ) (s : States) (t : State) → held s ≡ record { origin = origin; blocks = generated_blocks number n } → replay (held s).origin (held s).blocks ≡ Ok t → replay origin (generated_blocks number n) ≡ Ok t
 leads number n s t is e = ap (λ (h : Held). replay h.origin h.blocks) (sym is) ∙ e
 
 back : (number n : ℕ) (s : States) (t : State) → held s ≡ record { origin = origin; blocks = generated_blocks number n } → replay origin (generated_blocks number n) ≡ Ok t → replay (held s).origin (held s).blocks ≡ Ok t
@@ -137,10 +136,10 @@ pub begun : (number : ℕ) (s : States) (g : Progress) → IsStates s → held s
 unfolding progress_after
 begun number s g kept is e = record { states = kept; held_is = is ∙ ap (λ (bs : List Block). record { origin = origin; blocks = bs }) (sym (none_yet number)); progress = e }
 
--- the state that it leads to, and its summary
-pub summed : (number n : ℕ) (s : States) (text : List ℕ) → IsStates s → held s ≡ record { origin = origin; blocks = generated_blocks number n } → n ≤ 100000
-    → ((t : State) → replay (held s).origin (held s).blocks ≡ Ok t → t.header.round ≡ length (held s).blocks → text ≡ summary n t) → (t : State) × (replay origin (generated_blocks number n) ≡ Ok t) × (text ≡ summary n t)
-summed number n s text kept is few says =
+-- the state that it leads to, and what is said of it
+pub summed : (number n : ℕ) (s : States) (text : List ℕ) (say : State → List ℕ) → IsStates s → held s ≡ record { origin = origin; blocks = generated_blocks number n } → n ≤ 100000
+    → ((t : State) → replay (held s).origin (held s).blocks ≡ Ok t → t.header.round ≡ length (held s).blocks → text ≡ say t) → (t : State) × (replay origin (generated_blocks number n) ≡ Ok t) × (text ≡ say t)
+summed number n s text say kept is few says =
     let last = last_state s kept in
     let at = leads number n s last is (led_to_last s kept) in
     let l = led number n last (omega (arith, few)) at in

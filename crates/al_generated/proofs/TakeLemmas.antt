@@ -16,11 +16,11 @@ use Rattle.al_states.specs.Accepting.{Accepts}
 use Rattle.al_states.specs.Held.{Held}
 use Rattle.al_states.specs.declared.accepting.Accepted.{Accepted}
 
-abbrev text_of : Block → List ℕ
+abbrev pub text_of : Block → List ℕ
 text_of b = spelled (values.Map (block.write b))
 
 -- what the spelling of a block spells is that block
-same_block : (b x : Block) (body : List ℕ) → BlockRanges b → body ≡ text_of b → IsBlock body x → x ≡ b
+pub same_block : (b x : Block) (body : List ℕ) → BlockRanges b → body ≡ text_of b → IsBlock body x → x ≡ b
 same_block b x body fits is got =
     let mine : IsSpelling (values.Map (block.write b)) body = subst (IsSpelling (values.Map (block.write b))) (sym is) (canonical_spells 16 (values.Map (block.write b)) (block_canonical b fits)) in
     let one : ◌≡◌ {A = Val} (values.Map (block.write x)) (values.Map (block.write b)) = one_value (values.Map (block.write x)) (values.Map (block.write b)) body got.spells mine in
@@ -28,7 +28,7 @@ same_block b x body fits is got =
     once body x b got is_block
 
 -- a block of a later round is not there
-too_late : (blocks front behind : List Block) (kept : Block) (round : ℕ) → blocks ≡ front ++ kept ∷ behind → round ≡ suc (length front) → length blocks < round → ⊥
+pub too_late : (blocks front behind : List Block) (kept : Block) (round : ℕ) → blocks ≡ front ++ kept ∷ behind → round ≡ suc (length front) → length blocks < round → ⊥
 too_late blocks front behind kept round e r late =
     let long : length blocks ≡ length (front ++ kept ∷ behind) = ap (λ (xs : List Block). length xs) e in
     absurd (omega (arith, long, length-append front (kept ∷ behind), r, late))

@@ -1,3 +1,4 @@
 pub mod Chain
 pub mod Making
 pub mod Summary
+pub mod Catchpoints

@@ -1,7 +1,8 @@
-//! The chain that the generator of a number makes, and its summary.
+//! The chain that the generator of a number makes, its catchpoints, and its summary.
 #![tactic(auto)]
 
 mod chain;
+mod points;
 mod summary;
 
 pub use chain::{GenerateRefusal, generate};

@@ -1,10 +1,12 @@
 //! What is said of a chain.
 ghost use Rattle.std.specs.Prelude.{◌≡◌, ◌++◌, decimal, length, Ok, IfOk, OnOk};
 ghost use Rattle.al_eval.specs.State.{State, replay};
+ghost use Rattle.al_generated.specs.Catchpoints.{label_lines, whole_summary};
 ghost use Rattle.al_generated.specs.Summary.{line, number_line, summary};
 ghost use Rattle.al_states.specs.Held.{money_in};
 ghost use Rattle.al_states.specs.Keeping.{IsStates, held};
 
+use al_catch::{Label, label_text};
 use al_digest::hash_text;
 use al_states::States;
 use std::alloc::{AllocError, Global};
@@ -43,7 +45,7 @@ fn money(states: &States) -> Result<u64, AllocError>
 }
 
 // The summary of so many blocks, which the states hold.
-pub(crate) fn summary(alloc: Global, blocks: u64, states: &States) -> Result<Vec<u8>, AllocError>
+fn summary(alloc: Global, blocks: u64, states: &States) -> Result<Vec<u8>, AllocError>
     requires { IsStates states.now }
     ensures { (s : State) → replay (held states.now).origin (held states.now).blocks ≡ Ok s → s.header.round ≡ length (held states.now).blocks → IfOk result (λ text. text.items ≡ summary blocks s) }
 {
@@ -56,5 +58,31 @@ pub(crate) fn summary(alloc: Global, blocks: u64, states: &States) -> Result<Vec
     put_number(alloc, &mut out, b"floor", status.floor)?;
     put_line(&mut out, b"hash", &hash_text(&status.hash))?;
     put_number(alloc, &mut out, b"sum", sum)?;
+    Ok(out)
+}
+
+// A line for each label.
+fn put_labels(alloc: Global, out: &mut Vec<u8>, labels: &[Label]) -> Result<(), AllocError>
+    ensures { OnOk result (out.new.items ≡ out.old.items ++ label_lines labels.now) }
+{
+    for label in labels {
+        let text = label_text(alloc, label)?;
+        put_line(out, b"catchpoint", text.as_slice())?;
+    }
+    Ok(())
+}
+
+/// The summary of so many blocks, which the states hold, with the labels of their catchpoints.
+pub(crate) fn whole_summary(
+    alloc: Global,
+    blocks: u64,
+    states: &States,
+    labels: &[Label],
+) -> Result<Vec<u8>, AllocError>
+    requires { IsStates states.now }
+    ensures { (s : State) → replay (held states.now).origin (held states.now).blocks ≡ Ok s → s.header.round ≡ length (held states.now).blocks → IfOk result (λ text. text.items ≡ whole_summary blocks s labels.now) }
+{
+    let mut out = summary(alloc, blocks, states)?;
+    put_labels(alloc, &mut out, labels)?;
     Ok(out)
 }
