@@ -51,6 +51,8 @@ const OTHER: [Row; 1] = [(b"", b"folder: other\n")];
 
 const FOLDER: [Row; 1] = [(b"", b"folder: g\n")];
 
+const BLOCKS: [Row; 1] = [(b"", b"folder: b\n")];
+
 const CUT: [Row; 1] = [(b"GET /v1", b"")];
 
 const NOTHING: [Row; 1] = [(b"GET /v1/nothing HTTP/1.1\r\n\r\n", NO_ROUTE)];
@@ -81,7 +83,7 @@ const STATUSES: [(&[&str], u64, &[Row], u8); 26] = [
     (&["generate", "7", "1001"], 0, &USAGE, 2),
     (&["generate", "07", "200"], 0, &USAGE, 2),
     (&["generate", "18446744073709551616", "200"], 0, &USAGE, 2),
-    (&["catchpoint", "g", "b", "640"], 0, &USAGE, 2),
+    (&["catchpoint", "g", "b", "640"], 0, &BLOCKS, 4),
     (&["catchup", "g", "640#"], 0, &USAGE, 2),
     (&["label", "640"], 0, &USAGE, 2),
     (&["session", "odd"], 0, &ODD, 3),

@@ -94,7 +94,7 @@ wrote_then (Some m) None c x y p q = absurd p
 wrote_then (Some m) (Some n) None x y p q = absurd q
 wrote_then (Some m) (Some n) (Some o) x y p q = q ∙ ap (λ zs. zs ++ y) p ∙ append_assoc m x y
 
-wrote_none : (a : Option (List ℕ)) → Wrote a a []
+pub wrote_none : (a : Option (List ℕ)) → Wrote a a []
 wrote_none None = tt
 wrote_none (Some m) = sym (append-nil m)
 

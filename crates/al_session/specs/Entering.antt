@@ -3,7 +3,8 @@ use Rattle.std.specs.Prelude.{◌⊎◌, ℕ, List, [], map, drop, string_bytes,
 use Rattle.std.specs.Vec.Iter.{into_iter_items}
 use Rattle.std.specs.declared.string.String.{String}
 use Rattle.std.specs.declared.vec.IntoIter.{IntoIter}
-use Rattle.al_session.specs.Sessions.{Outside, IsShort, Runs}
+use Rattle.al_session.specs.Outside.{IsShort, Outside, Unchanged}
+use Rattle.al_session.specs.Sessions.{Runs}
 
 -- the arguments behind the first, which is the program's name
 abbrev pub words_behind : {A B : Type 0} → IntoIter (String A) B → List (List ℕ)
@@ -16,4 +17,4 @@ words_of (Err e) = []
 
 -- a run of these words, or there was no memory for them
 abbrev pub Enters : List (List ℕ) → Outside → Outside → ℕ → Type 0
-Enters words before after status = IsShort before after status ⊎ Runs words before after status
+Enters words before after status = Unchanged IsShort before after status ⊎ Runs words before after status

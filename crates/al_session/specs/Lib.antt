@@ -2,6 +2,12 @@ pub mod Connection
 pub mod Laws
 pub mod Room
 pub mod Taking
+pub mod Outside
+pub mod Telling
+pub mod Working
+pub mod Generating
+pub mod Catching
+pub mod Ending
 pub mod Sessions
 pub mod Entering
 pub mod Cuts

@@ -2,82 +2,25 @@
 ghost use Rattle.std.specs.Prelude.{◌≡◌, ◌≤◌, IfOk};
 ghost use Rattle.std.specs.Process.{exit_status};
 ghost use Rattle.al_session.specs.Entering.{Enters, words_of};
-ghost use Rattle.al_session.specs.Sessions.{IsDigit, IsSession, KeepsFiles, Refuses, Runs, RunsOf, Says, folder_line, genesis_line, status_of, usage_line};
+ghost use Rattle.al_session.specs.Outside.{KeepsFiles};
+ghost use Rattle.al_session.specs.Sessions.{IsSession, Runs, RunsOf, status_of};
 
+use crate::catching::catching;
 use crate::generation::{MOST_GENERATED, generation};
+use crate::input::{MOST_GENESIS, read_input, unread};
 use crate::link::{Caller, Ended, serve_link};
+use crate::saying::{refuse, usage};
 use crate::words::Words;
-use al_base::{Folder, FolderRefusal, Sink, Source};
-use al_http::MOST_BODY;
-use al_states::{OpenFault, States};
+use al_base::{Folder, Sink, Source};
+use al_states::States;
 use al_words::{Line, read_command};
 use std::alloc::{AllocError, Global};
 use std::process::ExitCode;
 use std::{env, io};
 
-/// The most bytes of a genesis file, which are those of a block.
-const MOST_GENESIS: usize = MOST_BODY as usize;
-
-const USAGE: &[u8] = b"usage: al_node [--db FILE] COMMAND\n";
-
 /// The status that the program ends with.
 #[derive(Clone, Copy, Debug, PartialEq, Eq)]
 pub struct Status(pub u8);
-
-// Writes the one line of a status. A sink that fails changes no status.
-fn say<T: Sink>(sink: &mut T, line: &[u8])
-    ensures says { Says line.now (T.written sink.old) (T.written sink.new) (T.faults sink.old) (T.faults sink.new) }
-    ensures later { T.faults sink.old ≤ T.faults sink.new }
-{
-    match sink.put(line) {
-        Ok(()) => {}
-        Err(_) => {}
-    }
-}
-
-// Answers words that are no line that is served.
-fn usage<T: Sink>(sink: &mut T) -> Status
-    ensures status { result.0 ≡ 2 }
-    ensures says { Says usage_line (T.written sink.old) (T.written sink.new) (T.faults sink.old) (T.faults sink.new) }
-    ensures later { T.faults sink.old ≤ T.faults sink.new }
-{
-    say(sink, USAGE);
-    Status(2)
-}
-
-// The line of status 3.
-fn genesis_line(number: u8) -> [u8; 11]
-    requires { number ≤ 9 }
-    ensures { result ≡ genesis_line number }
-{
-    let mut line = *b"genesis: 0\n";
-    line[9] += number;
-    line
-}
-
-// Answers a file that opens nothing.
-fn refuse<T: Sink>(sink: &mut T, fault: OpenFault) -> Status
-    requires { IsDigit fault }
-    ensures refuses { Refuses fault (T.written sink.old) (T.written sink.new) (T.faults sink.old) (T.faults sink.new) result.0 }
-    ensures later { T.faults sink.old ≤ T.faults sink.new }
-{
-    match fault {
-        OpenFault::Genesis { number } => {
-            say(sink, &genesis_line(number));
-            Status(3)
-        }
-        OpenFault::Memory => Status(7),
-    }
-}
-
-fn folder_text(alloc: Global, name: &str) -> Result<Vec<u8>, AllocError>
-    ensures { IfOk result (λ text. text.items ≡ folder_line name.now) }
-{
-    let mut text = b"folder: ".to_vec(alloc)?;
-    text.extend_from_slice(name.as_bytes())?;
-    text.push(b'\n')?;
-    Ok(text)
-}
 
 fn status_of(ended: Ended) -> Status
     ensures { result.0 ≡ status_of ended }
@@ -106,16 +49,9 @@ fn session<S: Source, T: Sink, F: Folder>(
     ensures files { KeepsFiles (F.files folder.old) (F.files folder.new) }
     ensures later { (S.faults source.old ≤ S.faults source.new) × (T.faults sink.old ≤ T.faults sink.new) × (F.faults folder.old ≤ F.faults folder.new) }
 {
-    let bytes = match folder.read(alloc, name, MOST_GENESIS) {
-        Ok(Some(bytes)) => bytes,
-        Err(FolderRefusal::Memory) => return Status(7),
-        _ => {
-            let Ok(line) = folder_text(alloc, name) else {
-                return Status(7);
-            };
-            say(sink, &line);
-            return Status(4);
-        }
+    let bytes = match read_input(alloc, folder, name, MOST_GENESIS) {
+        Ok(bytes) => bytes,
+        Err(fault) => return unread(alloc, fault, name, sink),
     };
     match States::open(alloc, bytes.as_slice()) {
         Ok(mut states) => status_of(serve_link(
@@ -138,7 +74,6 @@ fn run_line<S: Source, T: Sink, F: Folder>(
     folder: &mut F,
 ) -> Status
     ensures runs { RunsOf line.entry (record { left = S.left source.old; written = T.written sink.old; files = F.files folder.old; source_faults = S.faults source.old; sink_faults = T.faults sink.old; folder_faults = F.faults folder.old }) (record { left = S.left source.new; written = T.written sink.new; files = F.files folder.new; source_faults = S.faults source.new; sink_faults = T.faults sink.new; folder_faults = F.faults folder.new }) result.0 }
-    ensures files { KeepsFiles (F.files folder.old) (F.files folder.new) }
     ensures later { (S.faults source.old ≤ S.faults source.new) × (T.faults sink.old ≤ T.faults sink.new) × (F.faults folder.old ≤ F.faults folder.new) }
 {
     match line {
@@ -153,15 +88,15 @@ fn run_line<S: Source, T: Sink, F: Folder>(
             if blocks > MOST_GENERATED {
                 return usage(sink);
             }
-            generation(alloc, number, blocks, sink)
+            generation(alloc, number, blocks, sink, folder)
         }
         Some(
             Line::Catchpoint {
-                genesis: _,
-                blocks: _,
-                round: _,
+                genesis,
+                blocks,
+                round,
             },
-        ) => usage(sink),
+        ) => catching(alloc, genesis, blocks, round, sink, folder),
         Some(
             Line::Catchup {
                 genesis: _,
@@ -174,15 +109,18 @@ fn run_line<S: Source, T: Sink, F: Folder>(
 }
 
 /// Runs the command that the words say: `session FILE` reads the genesis file, and serves the
-/// source and the sink; `generate NUMBER BLOCKS` makes a chain of at most 1,000 blocks, and writes
-/// its summary.
+/// source and the sink; `generate NUMBER BLOCKS` makes a chain of at most 1,000 blocks, writes its
+/// catchpoints and its summary; `catchpoint FILE BLOCKS ROUND` posts the blocks of the second file
+/// over the genesis of the first, writes the catchpoint of the round, and tells its label.
 ///
-/// The status is 0 where the connection finished, or the summary was written; 2 where the words are
-/// no command, or one that is not served; 3 where the file holds no genesis that is taken; 4 where
-/// it could not be read; 5 where the connection ended otherwise, or the sink failed; 7 where there
-/// was no memory, or a block of the chain was refused. With 2, 3 and 4 one line of text is written,
-/// and nothing else. That the sum of all microAlgos stays asks that no state of the chain has an
-/// application whose account is the sink or the pool; all else needs no premise.
+/// The status is 0 where the connection finished, or the summary or the label was written; 2 where
+/// the words are no command, or one that is not served; 3 where the file holds no genesis that is
+/// taken; 4 where a file could not be read or written; 5 where the connection ended otherwise, or
+/// the sink failed; 6 where the round has no catchpoint, or the last block is below it; 7 where
+/// there was no memory, or a block of the chain that is made was refused; 8 where a block of the
+/// file was refused. With 2, 3, 4, 6 and 8 one line of text is written, and nothing else. No file
+/// but those of catchpoints is changed. That the sum of all microAlgos stays asks that no state of
+/// the chain has an application whose account is the sink or the pool; all else needs no premise.
 pub fn run<S: Source, T: Sink, F: Folder>(
     alloc: Global,
     words: &Words,
@@ -191,7 +129,6 @@ pub fn run<S: Source, T: Sink, F: Folder>(
     folder: &mut F,
 ) -> Status
     ensures runs { Runs words.now (record { left = S.left source.old; written = T.written sink.old; files = F.files folder.old; source_faults = S.faults source.old; sink_faults = T.faults sink.old; folder_faults = F.faults folder.old }) (record { left = S.left source.new; written = T.written sink.new; files = F.files folder.new; source_faults = S.faults source.new; sink_faults = T.faults sink.new; folder_faults = F.faults folder.new }) result.0 }
-    ensures files { KeepsFiles (F.files folder.old) (F.files folder.new) }
     ensures later { (S.faults source.old ≤ S.faults source.new) × (T.faults sink.old ≤ T.faults sink.new) × (F.faults folder.old ≤ F.faults folder.new) }
 {
     let Ok(texts) = words.texts(alloc) else {
@@ -226,7 +163,6 @@ pub fn enter<S: Source, T: Sink, F: Folder>(
     folder: &mut F,
 ) -> ExitCode
     ensures enters { Enters (words_of args) (record { left = S.left source.old; written = T.written sink.old; files = F.files folder.old; source_faults = S.faults source.old; sink_faults = T.faults sink.old; folder_faults = F.faults folder.old }) (record { left = S.left source.new; written = T.written sink.new; files = F.files folder.new; source_faults = S.faults source.new; sink_faults = T.faults sink.new; folder_faults = F.faults folder.new }) (exit_status result) }
-    ensures files { KeepsFiles (F.files folder.old) (F.files folder.new) }
 {
     match words_of(alloc, args) {
         Ok(words) => ExitCode::from(run(alloc, &words, source, sink, folder).0),
