@@ -20,11 +20,16 @@ def spelled(v):
     if isinstance(v, bytes):
         return (b'\xc4' + bytes([len(v)]) if len(v) < 256 else b'\xc5' + len(v).to_bytes(2, 'big')) + v
     if isinstance(v, list):
-        head = bytes([0x90 + len(v)]) if len(v) < 16 else b'\xdc' + len(v).to_bytes(2, 'big')
-        return head + b''.join(map(spelled, v))
+        return list_head(len(v)) + b''.join(map(spelled, v))
     kept = sorted((k.encode(), x) for k, x in v.items() if not is_zero(x))
     head = bytes([0x80 + len(kept)]) if len(kept) < 16 else b'\xde' + len(kept).to_bytes(2, 'big')
     return head + b''.join(spelled(k.decode()) + spelled(x) for k, x in kept)
+
+
+def list_head(n):
+    if n < 16:
+        return bytes([0x90 + n])
+    return b'\xdc' + n.to_bytes(2, 'big') if n < 1 << 16 else b'\xdd' + n.to_bytes(4, 'big')
 
 
 def is_zero(v):
@@ -45,19 +50,23 @@ def account_of(app):
 
 
 class Ledger:
-    """Writes the genesis and, block by block, the requests of a chain. `counter` is the number of what the last transaction created."""
+    """Writes the genesis and, block by block, the blocks and the requests of a chain. `counter` is the number of what the last transaction
+    created."""
     SINK, POOL = b'\1' * 32, b'\2' * 32
 
-    def __init__(self, folder, accounts):
-        self.users = [i.to_bytes(2, 'big') + b'\7' * 30 for i in range(1, accounts + 1)]
-        rows = [(u, {'b': 10 ** 12}) for u in self.users] + [(self.SINK, {'a': 2}), (self.POOL, {'a': 2, 'b': 100000})]
-        genesis = spelled({'alloc': [{'addr': a, 'row': r} for a, r in sorted(rows)], 'fees': self.SINK, 'rwd': self.POOL, 'id': 'bench'})
+    def __init__(self, folder, accounts, balance=10 ** 12, interval=0):
+        size = 2 if accounts < 1 << 16 else 4
+        self.users = [i.to_bytes(size, 'big') + b'\7' * (32 - size) for i in range(1, accounts + 1)]
+        rows = [(u, {'b': balance}) for u in self.users] + [(self.SINK, {'a': 2}), (self.POOL, {'a': 2, 'b': 100000})]
+        alloc = [{'addr': a, 'row': r} for a, r in sorted(rows, key=lambda row: row[0])]
+        genesis = spelled({'alloc': alloc, 'fees': self.SINK, 'rwd': self.POOL, 'id': 'bench', 'cpi': interval})
         self.genesis_hash = digest(b'GE', genesis)
         self.round, self.counter = 0, 0
         self.prev = digest(b'BH', spelled({'gh': self.genesis_hash, 'fees': self.SINK, 'rwd': self.POOL, 'rwcalr': 1}))
         os.makedirs(folder, exist_ok=True)
         with open(os.path.join(folder, 'genesis.msgp'), 'wb') as out:
             out.write(genesis)
+        self.blocks = open(os.path.join(folder, 'blocks.msgp'), 'wb')
         self.requests = open(os.path.join(folder, 'requests.http'), 'wb')
 
     def item(self, sender, fields, effects=()):
@@ -77,6 +86,7 @@ class Ledger:
                   'tc': self.counter, 'txn': digest(b'PL', spelled(payset))}
         self.prev = digest(b'BH', spelled(header))
         body = spelled({'b': header, 't': payset})
+        self.blocks.write(body)
         self.requests.write(b'POST /v1/blocks HTTP/1.1\r\ncontent-length: %d\r\n\r\n' % len(body) + body)
         asked = asked or self.users[self.round % len(self.users)]
         self.requests.write(b'GET /v1/accounts/%s HTTP/1.1\r\n\r\n' % account_text(asked).encode())

@@ -69,6 +69,7 @@ if __name__ == '__main__':
     print(label(640, bytes([1] * 32), bytes([2] * 32), some))
     print(label(1 << 62, bytes(range(32)), bytes(32), {}))
     print(label(321, bytes(32), bytes([255] * 32), {'l': 128, 'nm': 65536}))
+    print(label(400, bytes(32), bytes(32), {}))
     print(chunk(0, [(b'\x00\x01', b'\x81', 0), (b'\x02', b'\x80', 300)]).hex())
     print(chunk(3, [(b'\x07', b'\x09', 1)]).hex())
     print(info(2, 320, {'fm': 5000000, 'l': 7, 'nu': 300}).hex())
