@@ -21,7 +21,7 @@ struct NoRows {
 }
 
 impl RowsAt for NoRows {
-    ghost use Rattle.std.specs.Prelude.{false, ⊥, []};
+    ghost use Rattle.std.specs.Prelude.{false, []};
     ghost use Rattle.std.specs.FinMap.{empty};
     ghost use Rattle.al_rewards.specs.Totals.{no_totals};
 
