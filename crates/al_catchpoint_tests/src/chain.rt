@@ -100,10 +100,9 @@ pub(crate) fn folder(
     let contents: [(&[u8], &[u8]); 3] = [(b"g", genesis), (b"b", blocks), (b"odd", b"\xc0")];
     let mut files = Files::new(alloc);
     for (name, bytes) in contents {
-        files.push(NamedFile {
-            name: Bytes::of(alloc, name)?,
-            bytes: Bytes::of(alloc, bytes)?,
-        })?;
+        let name = Bytes::of(alloc, name)?;
+        let bytes = Bytes::of(alloc, bytes)?;
+        files.push(NamedFile { name, bytes })?;
     }
     MemFolder::new(alloc, files, fails)
 }
