@@ -90,6 +90,13 @@ pub(crate) fn blocks(alloc: Global, genesis: &[u8], count: u64) -> Result<Vec<u8
     Ok(out)
 }
 
+fn put(alloc: Global, files: &mut Files, name: &[u8], bytes: &[u8]) -> Result<(), AllocError> {
+    let name = Bytes::of(alloc, name)?;
+    let bytes = Bytes::of(alloc, bytes)?;
+    files.push(NamedFile { name, bytes })?;
+    Ok(())
+}
+
 /// A folder with the genesis `g`, the blocks `b`, and `odd`, which is neither.
 pub(crate) fn folder(
     alloc: Global,
@@ -97,13 +104,10 @@ pub(crate) fn folder(
     blocks: &[u8],
     fails: &[u64],
 ) -> Result<MemFolder, AllocError> {
-    let contents: [(&[u8], &[u8]); 3] = [(b"g", genesis), (b"b", blocks), (b"odd", b"\xc0")];
     let mut files = Files::new(alloc);
-    for (name, bytes) in contents {
-        let name = Bytes::of(alloc, name)?;
-        let bytes = Bytes::of(alloc, bytes)?;
-        files.push(NamedFile { name, bytes })?;
-    }
+    put(alloc, &mut files, b"g", genesis)?;
+    put(alloc, &mut files, b"b", blocks)?;
+    put(alloc, &mut files, b"odd", b"\xc0")?;
     MemFolder::new(alloc, files, fails)
 }
 
