@@ -20,7 +20,8 @@ use Rattle.al_rows.proofs.Keys.{keys_total, exact_keys}
 use Rattle.al_rows.proofs.Maps.{find-lookup, get-overlaid, entries_found}
 use Rattle.al_rows.proofs.Views.{get-of_entries, ranged-get, sorted}
 use Rattle.al_deltas.specs.declared.delta.RoundDelta.{RoundDelta}
-use Rattle.al_deltas.specs.Queue.{StoredMap, after_delta, left_of, stored_at}
+use Rattle.al_tables.specs.Tables.{StoredMap}
+use Rattle.al_deltas.specs.Queue.{after_delta, left_of, stored_at}
 use Rattle.al_deltas.proofs.Searches.{Rise, equal}
 
 -- what a list has under a key

@@ -19,7 +19,8 @@ use Rattle.al_rows.specs.Rows.{IsKept}
 use Rattle.al_rows.proofs.Keys.{keys_total, exact_keys}
 use Rattle.al_rows.proofs.Maps.{find-lookup, get-overlaid}
 use Rattle.al_deltas.proofs.Searches.{equal}
-use Rattle.al_deltas.specs.Queue.{StoredMap, Queue, IsQueue, IsKeptDelta, AreRounds, top, left_of, stored_at, left_by, changed_in, creator_in, last_change, last_creator, last_of, after_delta, rows_after, totals_after, level_after, up_to, from_round}
+use Rattle.al_tables.specs.Tables.{StoredMap}
+use Rattle.al_deltas.specs.Queue.{Queue, IsQueue, IsKeptDelta, AreRounds, top, left_of, stored_at, left_by, changed_in, creator_in, last_change, last_creator, last_of, after_delta, rows_after, totals_after, level_after, up_to, from_round}
 
 pub at_left : (round : ℕ) (cs : List Change) (q : Key) → lookup (is_at (key_cmp q)) (map (left_of round) cs) ≡ option_map (stored_at round) (changed_in q cs)
 at_left round [] q = refl

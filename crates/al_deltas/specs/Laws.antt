@@ -4,7 +4,8 @@ use Rattle.std.specs.FinMap.{get}
 use Rattle.al_base.specs.declared.key.Key.{Key}
 use Rattle.al_deltas.specs.declared.delta.RoundDelta.{RoundDelta}
 use Rattle.al_rows.specs.Finite.{or_below}
-use Rattle.al_deltas.specs.Queue.{StoredMap, Queue, last_change, left_by, rows_after, up_to, from_round}
+use Rattle.al_tables.specs.Tables.{StoredMap}
+use Rattle.al_deltas.specs.Queue.{Queue, last_change, left_by, rows_after, up_to, from_round}
 
 -- the rows after blocks are those below, but where the queue has a change
 abbrev pub QueueIsRows : Type 0

@@ -6,7 +6,6 @@ use Rattle.std.specs.List.Sorted.{IsStrictlySortedBy}
 use Rattle.std.specs.Option.{option_or}
 use Rattle.std.specs.Map.{lookup}
 use Rattle.std.specs.BTreeMap.{is_at}
-use Rattle.std.specs.FinMap.{FinMap}
 use Rattle.std.specs.Ordering.{nat_cmp}
 use Rattle.al_base.specs.declared.address.Address.{Address}
 use Rattle.al_base.specs.declared.key.CreatorChange.{CreatorChange}
@@ -19,10 +18,7 @@ use Rattle.al_rows.specs.declared.row.Row.{Row}
 use Rattle.al_rows.specs.declared.stored.Stored.{Stored}
 use Rattle.al_rows.specs.Finite.{overlaid}
 use Rattle.al_rows.specs.Rows.{IsKept}
-
--- the rows under their keys, with the rounds of their last changes
-abbrev pub StoredMap : Type 0
-StoredMap = FinMap key_cmp Stored
+use Rattle.al_tables.specs.Tables.{StoredMap, creator_pair}
 
 -- what stands under a key that a block of this round changed
 abbrev pub stored_at : ℕ → Option Row → Option Stored
@@ -44,10 +40,6 @@ changed_in q cs = lookup (is_at (key_cmp q)) (map pair_of cs)
 abbrev pub last_change : Key → List RoundDelta → Option (ℕ × Option Row)
 last_change q [] = None
 last_change q (d ∷ ds) = option_or (last_change q ds) (option_map (λ row. (d.round, row)) (changed_in q d.changes))
-
--- a change of a creator as a pair
-abbrev pub creator_pair : CreatorChange → ℕ × Option Address
-creator_pair c = (c.id, c.now)
 
 -- what these change of the creator of an id, if they do
 abbrev pub creator_in : ℕ → List CreatorChange → Option (Option Address)

@@ -39,7 +39,7 @@ impl Model for KeptRows {
     ghost use Rattle.al_rows.specs.Rows.{IsKept};
     ghost use Rattle.al_rows.specs.contracts.stored.Stored as stored;
     ghost use Rattle.al_deltas.specs.Index.{IsIndex};
-    ghost use Rattle.al_deltas.specs.Queue.{StoredMap};
+    ghost use Rattle.al_tables.specs.Tables.{StoredMap};
 
     ghost Value = { StoredMap };
 

@@ -17,7 +17,8 @@ use Rattle.al_block.specs.declared.header.Header.{Header}
 use Rattle.al_block.specs.Hashes.{header_hash_of}
 use Rattle.al_block.proofs.Within.{is_within}
 use Rattle.al_deltas.specs.declared.delta.RoundDelta.{RoundDelta}
-use Rattle.al_deltas.specs.Queue.{Queue, StoredMap, IsKeptDelta, after_delta, creator_in, last_creator, last_of, level_after, rows_after, top, totals_after, up_to}
+use Rattle.al_tables.specs.Tables.{StoredMap}
+use Rattle.al_deltas.specs.Queue.{Queue, IsKeptDelta, after_delta, creator_in, last_creator, last_of, level_after, rows_after, top, totals_after, up_to}
 use Rattle.al_deltas.proofs.Queues.{last_pushed, rows_then}
 use Rattle.al_rewards.specs.declared.totals.Totals.{Totals}
 use Rattle.al_rows.specs.Finite.{or_below}

@@ -13,7 +13,8 @@ use Rattle.al_block.specs.declared.block.Block.{Block}
 use Rattle.al_block.specs.Block.{IsBlock}
 use Rattle.al_block.specs.Hashes.{header_hash_of}
 use Rattle.al_deltas.specs.declared.delta.RoundDelta.{RoundDelta}
-use Rattle.al_deltas.specs.Queue.{Queue, StoredMap, IsKeptDelta, after_delta, creator_in, last_of, rows_after}
+use Rattle.al_tables.specs.Tables.{StoredMap}
+use Rattle.al_deltas.specs.Queue.{Queue, IsKeptDelta, after_delta, creator_in, last_of, rows_after}
 use Rattle.al_rows.specs.Above.{IsStored}
 use Rattle.al_rows.specs.Finite.{or_below}
 use Rattle.al_rows.specs.Rows.{bare, creator_of}

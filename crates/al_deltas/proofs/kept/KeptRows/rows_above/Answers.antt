@@ -13,7 +13,7 @@ use Rattle.al_rows.proofs.Views.{entries-of}
 use Rattle.al_rows.specs.Above.{is_above, keyed_of, rows_above}
 use Rattle.al_rows.specs.declared.stored.Keyed.{Keyed}
 use Rattle.al_rows.specs.declared.stored.Stored.{Stored}
-use Rattle.al_deltas.specs.Queue.{StoredMap}
+use Rattle.al_tables.specs.Tables.{StoredMap}
 use Rattle.al_deltas.proofs.kept.KeptRows.rows_above.Goals as goal
 
 pub returns : goal.returns
