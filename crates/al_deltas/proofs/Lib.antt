@@ -2,3 +2,4 @@ pub mod Queues
 pub mod Searches
 pub mod Applied
 pub mod Indexes
+pub mod Nets

@@ -20,7 +20,7 @@ use Rattle.al_rows.proofs.Keys.{keys_total, exact_keys}
 use Rattle.al_rows.proofs.Maps.{find-lookup, get-overlaid}
 use Rattle.al_deltas.proofs.Searches.{equal}
 use Rattle.al_tables.specs.Tables.{StoredMap}
-use Rattle.al_deltas.specs.Queue.{Queue, IsQueue, IsKeptDelta, AreRounds, top, left_of, stored_at, left_by, changed_in, creator_in, last_change, last_creator, last_of, after_delta, rows_after, totals_after, level_after, up_to, from_round}
+use Rattle.al_deltas.specs.Queue.{Queue, IsQueue, IsKeptDelta, AreRounds, and_delta, top, left_of, stored_at, left_by, changed_in, creator_in, last_change, last_creator, last_of, after_delta, rows_after, totals_after, level_after, up_to, from_round}
 
 pub at_left : (round : ℕ) (cs : List Change) (q : Key) → lookup (is_at (key_cmp q)) (map (left_of round) cs) ≡ option_map (stored_at round) (changed_in q cs)
 at_left round [] q = refl
@@ -51,7 +51,7 @@ take_none : {A : Type 0} (n : ℕ) → ◌≡◌ {A = List A} (take n []) []
 take_none zero = refl
 take_none (suc n) = refl
 
-take_parts : {A : Type 0} (n k : ℕ) (xs : List A) → take n xs ++ take k (drop n xs) ≡ take (n + k) xs
+pub take_parts : {A : Type 0} (n k : ℕ) (xs : List A) → take n xs ++ take k (drop n xs) ≡ take (n + k) xs
 take_parts zero k xs = ap (λ j. take j xs) (let e : k ≡ zero + k = omega arith in e)
 take_parts (suc n) k [] = take_none k ∙ sym (take_none (suc n + k))
 take_parts (suc n) k (x ∷ xs) = ap (λ ys. x ∷ ys) (take_parts n k xs) ∙ ap (λ j. take j (x ∷ xs)) (let e : suc (n + k) ≡ suc n + k = omega arith in e)
@@ -66,7 +66,7 @@ goes_on q m at to low high =
 
 -- ---- the last of a list
 
-or_assoc : {A : Type 0} (a b c : Option A) → option_or (option_or a b) c ≡ option_or a (option_or b c)
+pub or_assoc : {A : Type 0} (a b c : Option A) → option_or (option_or a b) c ≡ option_or a (option_or b c)
 or_assoc None b c = refl
 or_assoc (Some x) b c = refl
 
@@ -74,7 +74,7 @@ or_none : {A : Type 0} (a : Option A) → option_or a None ≡ a
 or_none None = refl
 or_none (Some x) = refl
 
-last_more : (q : Key) (ds : List RoundDelta) (d : RoundDelta) → last_change q (ds ++ d ∷ []) ≡ option_or (option_map (λ row. (d.round, row)) (changed_in q d.changes)) (last_change q ds)
+pub last_more : (q : Key) (ds : List RoundDelta) (d : RoundDelta) → last_change q (ds ++ d ∷ []) ≡ option_or (option_map (λ row. (d.round, row)) (changed_in q d.changes)) (last_change q ds)
 last_more q [] d = sym (or_none (option_map (λ row. (d.round, row)) (changed_in q d.changes)))
 last_more q (x ∷ ds) d =
     ap (λ o. option_or o (option_map (λ row. (x.round, row)) (changed_in q x.changes))) (last_more q ds d)
@@ -88,7 +88,7 @@ find_here q xs d left row is some = ap (λ o. option_or (option_map (λ r. (d.ro
 
 -- ---- the last change of a creator
 
-creator_more : (id : ℕ) (ds : List RoundDelta) (d : RoundDelta) → last_creator id (ds ++ d ∷ []) ≡ option_or (creator_in id d.creators) (last_creator id ds)
+pub creator_more : (id : ℕ) (ds : List RoundDelta) (d : RoundDelta) → last_creator id (ds ++ d ∷ []) ≡ option_or (creator_in id d.creators) (last_creator id ds)
 creator_more id [] d = sym (or_none (creator_in id d.creators))
 creator_more id (x ∷ ds) d = ap (λ o. option_or o (creator_in id x.creators)) (creator_more id ds d) ∙ or_assoc (creator_in id d.creators) (last_creator id ds) (creator_in id x.creators)
 
@@ -104,12 +104,17 @@ rounds_more : (base : ℕ) (ds : List RoundDelta) (d : RoundDelta) → AreRounds
 rounds_more base [] d h e = (e ∙ (let s : suc (base + 0) ≡ suc base = omega arith in s), tt)
 rounds_more base (x ∷ ds) d h e = (h.0, rounds_more (suc base) ds d h.1 (e ∙ (let s : suc (base + suc (length ds)) ≡ suc (suc base + length ds) = omega arith in s)))
 
-pub queue_more : (q : Queue) (d : RoundDelta) → IsQueue q → d.round ≡ suc (top q) → d.round ≤ 2 ^ 62 → IsKeptDelta d → IsQueue (record q { deltas = q.deltas ++ d ∷ [] })
+pub queue_more : (q : Queue) (d : RoundDelta) → IsQueue q → d.round ≡ suc (top q) → d.round ≤ 2 ^ 62 → IsKeptDelta d → IsQueue (and_delta d q)
 queue_more q d h next most kept = record {
   rounds = rounds_more q.base q.deltas d h.rounds next;
   last = (let long = length-append q.deltas (d ∷ []) in omega (arith, long, next, most));
   kept = All-push IsKeptDelta q.deltas d h.kept kept;
 }
+
+pub queue_pushed : (q : Queue) (d : RoundDelta) (ds : List RoundDelta) (spare : ℕ) → IsQueue q → d.round ≡ suc (top q) → d.round ≤ 2 ^ 62 → IsKeptDelta d → ds ≡ q.deltas ++ d ∷ [] → IsQueue (record { base = q.base; deltas = ds; totals = q.totals; spare = spare })
+queue_pushed q d ds spare h next most kept is =
+    let x = queue_more q d h next most kept in
+    subst (λ es. IsQueue (record { base = q.base; deltas = es; totals = q.totals; spare = spare })) (sym is) (record { rounds = x.rounds; last = x.last; kept = x.kept })
 
 -- ---- the last round
 
@@ -128,7 +133,7 @@ level_more (x ∷ ds) d level = level_more ds d x.header.level
 
 -- ---- what is found may be kept
 
-found_kept : (q : Key) (cs : List Change) → AllByRecursion (λ c. IfSome c.row (IsKept c.key)) cs → IfSome (changed_in q cs) (λ r. IfSome r (IsKept q))
+pub found_kept : (q : Key) (cs : List Change) → AllByRecursion (λ c. IfSome c.row (IsKept c.key)) cs → IfSome (changed_in q cs) (λ r. IfSome r (IsKept q))
 found_kept q [] h = tt
 found_kept q (c ∷ cs) h = by_test (is_at (key_cmp q) c.key) refl (found_kept q cs h.1)
   where

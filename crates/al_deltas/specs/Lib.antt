@@ -1,3 +1,4 @@
 pub mod Queue
 pub mod Index
+pub mod Net
 pub mod Laws

@@ -1,5 +1,5 @@
 -- What blocks change, as a queue over the rows of its base.
-use Rattle.std.specs.Prelude.{◌≡◌, ◌≤◌, ◌^◌, ℕ, suc, ◌+◌, ◌-◌, List, [], ◌∷◌, length, map, take, drop, option_map, ⊤, All, IfSome}
+use Rattle.std.specs.Prelude.{◌≡◌, ◌≤◌, ◌^◌, ℕ, suc, ◌+◌, ◌-◌, List, [], ◌∷◌, ◌++◌, max, length, map, take, drop, option_map, ⊤, All, IfSome}
 use Rattle.std.specs.declared.option.Option.{Option}
 use Rattle.std.specs.declared.option.Option.TheVariants.{None, Some}
 use Rattle.std.specs.List.Sorted.{IsStrictlySortedBy}
@@ -96,6 +96,8 @@ pub record Queue : Type 0 where
   pub deltas : List RoundDelta
   -- the totals of the base's round
   pub totals : Totals
+  -- for how many more changes there is room
+  pub spare : ℕ
 
 -- the last round
 abbrev pub top : Queue → ℕ
@@ -113,4 +115,12 @@ up_to round q = take (round - q.base) q.deltas
 
 -- the queue from a round on
 abbrev pub from_round : ℕ → Queue → Queue
-from_round round q = record { base = round; deltas = drop (round - q.base) q.deltas; totals = totals_after (up_to round q) q.totals }
+from_round round q = record { base = round; deltas = drop (round - q.base) q.deltas; totals = totals_after (up_to round q) q.totals; spare = q.spare }
+
+-- the queue with the changes of one block more, which take a room
+abbrev pub and_delta : RoundDelta → Queue → Queue
+and_delta d q = record { base = q.base; deltas = q.deltas ++ d ∷ []; totals = q.totals; spare = q.spare - 1 }
+
+-- there is room for one change more
+abbrev pub with_room : Queue → Queue
+with_room q = record { base = q.base; deltas = q.deltas; totals = q.totals; spare = max 1 q.spare }

@@ -2,6 +2,7 @@
 #![tactic(auto)]
 
 mod above;
+mod batch;
 mod delta;
 mod index;
 mod kept;
@@ -10,5 +11,8 @@ mod queue;
 
 pub use delta::RoundDelta;
 pub use kept::{KeptRows, put_row, take_row};
-pub use laws::{queue_is_rows, rows_go_on};
+pub use laws::{
+    batch_is_tables, creators_go_on, net_is_creators, net_is_rows, queue_is_creators,
+    queue_is_rows, rows_go_on,
+};
 pub use queue::Deltas;

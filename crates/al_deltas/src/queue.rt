@@ -1,47 +1,56 @@
 //! The queue of what blocks change.
-ghost use Rattle.std.specs.Prelude.{◌≡◌, ◌++◌, ◌∷◌, ◌-◌, ◌<◌, ◌≤◌, ◌^◌, [], suc, All, IfSome, OnOk, OnErr, option_map, map, get_or};
+ghost use Rattle.std.specs.Prelude.{◌≡◌, ◌++◌, ◌∷◌, ◌-◌, ◌<◌, ◌≤◌, ◌^◌, [], suc, All, IfOk, IfSome, IsOk, OnOk, OnErr, option_map, map, get_or};
 ghost use Rattle.std.specs.Option.{option_copied};
 ghost use Rattle.std.specs.List.Sorted.{IsStrictlySortedBy};
 ghost use Rattle.std.specs.Ordering.{nat_cmp};
 ghost use Rattle.al_base.specs.Keys.{key_cmp};
 ghost use Rattle.al_rows.specs.Rows.{IsKept};
-ghost use Rattle.al_deltas.specs.Queue.{IsKeptDelta, changed_in, creator_in, last_change, last_creator, last_of, level_after, top, totals_after, up_to};
+ghost use Rattle.al_deltas.specs.Net.{IsBatchOf};
+ghost use Rattle.al_deltas.specs.Queue.{IsKeptDelta, and_delta, changed_in, creator_in, from_round, last_change, last_creator, last_of, level_after, top, totals_after, up_to, with_room};
 
 use crate::RoundDelta;
+use crate::batch::batch_of;
 use al_base::{Address, CreatorChange, Key};
 use al_rewards::Totals;
 use al_rows::{Change, Row};
+use al_tables::Batch;
 use std::alloc::{AllocError, Global};
 use std::marker::Model;
 
 /// What the blocks above a round change, oldest first.
 #[derive(Drop)]
 pub struct Deltas {
+    alloc: Global,
     base: u64,
     deltas: Vec<RoundDelta>,
     totals: Totals,
+    // For how many more changes there is room.
+    spare: usize,
 }
 
 impl Model for Deltas {
+    ghost use Rattle.std.specs.Prelude.{◌+◌, ◌≤◌, vec_len, vec_capacity};
     ghost use Rattle.al_deltas.specs.Queue.{IsQueue, Queue};
 
     ghost Value = { Queue };
 
-    ghost view = { λ q. record { base = q.base; deltas = q.deltas.items; totals = q.totals } };
+    ghost view = { λ q. record { base = q.base; deltas = q.deltas.items; totals = q.totals; spare = q.spare } };
 
-    ghost invariant = { λ q. IsQueue (record { base = q.base; deltas = q.deltas.items; totals = q.totals }) };
+    ghost invariant = { λ q. IsQueue (record { base = q.base; deltas = q.deltas.items; totals = q.totals; spare = q.spare }) × (vec_len q.deltas + q.spare ≤ vec_capacity q.deltas) };
 }
 
 impl Deltas {
     /// No change above this round, which is at most 2^62 and whose totals are these.
     pub fn new(alloc: Global, base: u64, totals: Totals) -> Deltas
         requires { base ≤ 2 ^ 62 }
-        ensures { result ≡ record { base = base; deltas = []; totals = totals } }
+        ensures { result ≡ record { base = base; deltas = []; totals = totals; spare = 0 } }
     {
         Deltas {
+            alloc,
             base,
             deltas: Vec::new(alloc),
             totals,
+            spare: 0,
         }
     }
 
@@ -59,16 +68,58 @@ impl Deltas {
         self.base + self.deltas.len() as u64
     }
 
-    /// Adds the changes of the next round, which rise by their keys. Errors: no memory.
+    /// Makes room for the changes of one round more, where there is none. Errors: no memory.
+    pub fn reserve(&mut self) -> Result<(), AllocError>
+        ensures ok { OnOk result (self.new ≡ with_room self.old) }
+        ensures err { OnErr result (self.new ≡ self.old) }
+    {
+        if self.spare == 0 {
+            self.deltas.reserve(1)?;
+            self.spare = 1;
+        }
+        Ok(())
+    }
+
+    /// Adds the changes of the next round, which rise by their keys. Where there is room it takes no
+    /// memory. Errors: no memory.
     pub fn push(&mut self, d: RoundDelta) -> Result<(), AllocError>
         requires next { d.round ≡ suc (top self.old) }
         requires most { d.round ≤ 2 ^ 62 }
         requires kept { IsKeptDelta d }
-        ensures ok { OnOk result (self.new ≡ record self.old { deltas = self.old.deltas ++ d ∷ [] }) }
+        ensures ok { OnOk result (self.new ≡ and_delta d self.old) }
         ensures err { OnErr result (self.new ≡ self.old) }
+        ensures room { 0 < self.old.spare → IsOk result }
     {
         self.deltas.push(d)?;
+        self.spare = self.spare.saturating_sub(1);
         Ok(())
+    }
+
+    /// Forgets the changes up to a round, which becomes the base. It takes no memory.
+    pub fn drop_to(&mut self, to: u64)
+        requires from { self.old.base ≤ to }
+        requires top { to ≤ top self.old }
+        ensures { self.new ≡ from_round to self.old }
+    {
+        let count = (to - self.base) as usize;
+        self.totals = totals_in(&self.totals, &self.deltas[..count]);
+        drop(self.deltas.drain(..count));
+        self.base = to;
+    }
+
+    /// The batch that leads from the base to a round up to the last one: of each row and creator the
+    /// last change alone. Errors: no memory.
+    pub fn batch(&self, to: u64) -> Result<Batch, AllocError>
+        requires from { self.now.base ≤ to }
+        requires top { to ≤ top self.now }
+        ensures { IfOk result (IsBatchOf to self.now) }
+    {
+        batch_of(
+            self.alloc,
+            self.base,
+            to,
+            &self.deltas[..(to - self.base) as usize],
+        )
     }
 
     /// The changes of the last round, if there are any.
