@@ -1,0 +1,4 @@
+pub mod Lives
+pub mod Listed
+pub mod Slotted
+pub mod Newests

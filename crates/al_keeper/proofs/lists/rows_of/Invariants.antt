@@ -1,0 +1,6 @@
+use Rattle.std.proofs.Common.{◌≡◌, map, take}
+use Rattle.al_tables.specs.Tables.{row_of}
+use Rattle.al_keeper.proofs.lists.rows_of.Given as goal
+
+abbrev pub invariant-loop-row : goal.invariant-loop-row
+invariant-loop-row l = l.out.items ≡ map row_of (take l.row-index l.rows)
