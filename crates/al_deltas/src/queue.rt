@@ -114,12 +114,18 @@ impl Deltas {
         requires top { to ≤ top self.now }
         ensures { IfOk result (IsBatchOf to self.now) }
     {
-        batch_of(
-            self.alloc,
-            self.base,
-            to,
-            &self.deltas[..(to - self.base) as usize],
-        )
+        batch_of(self.alloc, self.base, to, self.front(to))
+    }
+
+    // The changes up to a round.
+    fn front(&self, to: u64) -> &[RoundDelta]
+        requires from { self.now.base ≤ to }
+        requires top { to ≤ top self.now }
+        ensures front { result.now ≡ up_to to self.now }
+        ensures kept { All IsKeptDelta result.now }
+        ensures low { All (λ d. d.round ≤ 2 ^ 62) result.now }
+    {
+        &self.deltas[..(to - self.base) as usize]
     }
 
     /// The changes of the last round, if there are any.
