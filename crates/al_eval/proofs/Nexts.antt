@@ -1,8 +1,9 @@
 -- The rows after a block are those before with what it changes put over them.
 use Rattle.std.proofs.Common.{◌≡◌, ℕ, refl, sym, ap, ◌∙◌, subst, Option, Some, None, Bool, true, false, option_map, if◌then◌else◌, map}
-use Rattle.std.specs.FinMap.{get, same_map}
+use Rattle.std.specs.FinMap.{FinMap, get, same_map}
+use Rattle.al_base.specs.Keys.{key_cmp}
 use Rattle.al_deltas.specs.declared.delta.RoundDelta.{RoundDelta}
-use Rattle.al_deltas.specs.Queue.{StoredMap, after_delta, stored_at}
+use Rattle.al_deltas.specs.Queue.{after_delta, stored_at}
 use Rattle.al_deltas.proofs.Queues.{get-after_delta}
 use Rattle.al_rows.specs.declared.row.Row.{Row}
 use Rattle.al_rows.specs.declared.stored.Stored.{Stored}
@@ -29,7 +30,7 @@ one round (Some s) (Some r) = by_test (row_eq s.row r) refl
     by_test false e = refl
 
 -- the changes from the rows before to those now lead to the rows now, with their rounds
-stamps : (d : RoundDelta) (m : StoredMap) (n : RowMap) → AreChanges (bare m) n (map change_of d.changes) → after_delta d m ≡ stamped d.round m n
+stamps : (d : RoundDelta) (m : FinMap key_cmp Stored) (n : RowMap) → AreChanges (bare m) n (map change_of d.changes) → after_delta d m ≡ stamped d.round m n
 stamps d m n h = same_map keys_total exact_keys (after_delta d m) (stamped d.round m n) (λ q.
     get-after_delta d m q
     ∙ ap (λ o. or_below (option_map (stored_at d.round) o) (get m q)) (h.each q ∙ ap (λ o. if same_row o (get n q) then None else Some (get n q)) (get-map_entries exact_keys (λ k (s : Stored). s.row) m q))
