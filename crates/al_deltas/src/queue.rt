@@ -61,9 +61,10 @@ impl Deltas {
         self.base
     }
 
-    /// The last round.
+    /// The last round, at most 2^62.
     pub fn top(&self) -> u64
-        ensures { result ≡ top self.now }
+        ensures value { result ≡ top self.now }
+        ensures most { top self.now ≤ 2 ^ 62 }
     {
         self.base + self.deltas.len() as u64
     }

@@ -20,5 +20,5 @@ pub use laws::{
     changes_lead, groups_are_items, items_are_grouped, rows_follow, snaps_are_kept,
     start_is_counted, start_is_sound, step_is_sound,
 };
-pub use run::{Evaluated, eval, eval_with_entries};
+pub use run::{Evaluated, eval, eval_by_value, eval_with_entries};
 pub use start::{start_online, start_rows, start_totals};

@@ -290,6 +290,36 @@ pub fn eval_with_entries<V: RowView>(
     answer
 }
 
+/// The step of a block over a view, as `eval` says, into an answer. The view is given by value and
+/// comes back, so that what it reads through is known to be as the view leaves it.
+pub fn eval_by_value<V: RowView>(
+    alloc: Global,
+    view: V,
+    before: &Before,
+    tail: &Tail,
+    block: &Block,
+    answer: &mut Result<Evaluated, EvalRefusal<V::Fault>>,
+) -> V
+    requires most { block.now.header.round ≤ 2 ^ 62 }
+    requires effects { All (λ i. All EffectInRange i.effects) block.now.items }
+    requires counted { before.now.header.counter + sum_by size_of block.now.items < 2 ^ 64 }
+    ensures lender { V.lender result ≡ V.lender view }
+    ensures sound { V.tells ≡ true → (s : State) → before.now ≡ before_of s → live block.now.header.round tail.now ≡ live block.now.header.round (map entry_of s.past) → V.rows view ≡ bare s.rows → Consistent s → IsStep s block.now (delta_in answer.new) }
+    ensures ranged { AreInRange block.now }
+    ensures cause { IsCounted answer.new (V.failures view) (V.failures result) }
+    ensures same { V.tells ≡ true → V.rows result ≡ V.rows view }
+    ensures entries { IfOk answer.new (λ e. e.entries.items ≡ map (λ i. entry_of i.txn) block.now.items) }
+    ensures ordered { IfOk answer.new (λ e. IsStrictlySortedBy key_cmp (map (λ c. c.key) e.delta.changes)) }
+    ensures kept { IfOk answer.new (λ e. All (λ c. IfSome c.row (IsKept c.key)) e.delta.changes) }
+    ensures creators { IfOk answer.new (λ e. IsStrictlySortedBy nat_cmp (map (λ c. c.id) e.delta.creators)) }
+    ensures online { IfOk answer.new (λ e. IsStrictlySortedBy address_cmp (map (λ c. c.address) e.delta.online)) }
+    ensures header { IfOk answer.new (λ e. IsDeltaOf block.now.header e.delta) }
+    ensures next { IfOk answer.new (λ e. e.delta.round ≡ before.now.header.round + 1) }
+{
+    numbers_fit(block.items.as_slice());
+    eval_over(alloc, view, before, tail, block, answer)
+}
+
 /// The step of a block over a view: what it changes, or the first refusal. It follows the Algorand
 /// ledger specification: first the header's fields, then the pool pays the rewards, then the digest
 /// of the payset, then each group in order, then the accounts that are listed as expired, and last
