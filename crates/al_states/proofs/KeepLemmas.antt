@@ -18,7 +18,7 @@ use Rattle.al_block.specs.Hashes.{header_hash_of}
 use Rattle.al_block.proofs.Within.{is_within}
 use Rattle.al_deltas.specs.declared.delta.RoundDelta.{RoundDelta}
 use Rattle.al_tables.specs.Tables.{StoredMap}
-use Rattle.al_deltas.specs.Queue.{Queue, IsKeptDelta, after_delta, creator_in, last_creator, last_of, level_after, rows_after, top, totals_after, up_to}
+use Rattle.al_deltas.specs.Queue.{Queue, IsKeptDelta, after_delta, and_delta, creator_in, last_creator, last_of, level_after, rows_after, top, totals_after, up_to}
 use Rattle.al_deltas.proofs.Queues.{last_pushed, rows_then}
 use Rattle.al_rewards.specs.declared.totals.Totals.{Totals}
 use Rattle.al_rows.specs.Finite.{or_below}
@@ -264,7 +264,7 @@ ok_is s t e = cc
 more : (chain : Chain) (first : Header) (base newest : StoredMap) (deltas : Queue) (kept : List KeptBlock) (header : Header) (hash : List ℕ) (totals : Totals) (tail : List Entry) (memory memory2 : Memory) (next : KeptBlock) (e : Evaluated)
     → IsKeeping chain first base newest deltas kept header hash totals tail memory → newest ≡ rows_after deltas.deltas base → Leads (record { origin = origin_of chain first base; blocks = blocks_of kept }) next.block e → IsBlock next.bytes.items next.block
     → next.block.header.round ≡ suc (length (blocks_of kept)) → memory2 ≡ and_round e.delta.header.level e.delta.online memory → last_round memory2 ≡ e.delta.round
-    → IsKeeping chain first base newest (record deltas { deltas = deltas.deltas ++ e.delta ∷ [] }) (kept ++ next ∷ []) e.delta.header e.delta.hash e.delta.totals (tail ++ map (λ i. entry_of i.txn) next.block.items) memory2
+    → IsKeeping chain first base newest (and_delta e.delta deltas) (kept ++ next ∷ []) e.delta.header e.delta.hash e.delta.totals (tail ++ map (λ i. entry_of i.txn) next.block.items) memory2
 more chain first base newest deltas kept header hash totals tail memory memory2 next e k newest_is l spells round grown at =
     let b = next.block in
     let d = e.delta in
@@ -310,7 +310,7 @@ more chain first base newest deltas kept header hash totals tail memory memory2 
 
 pub kept_more : (chain : Chain) (first : Header) (base newest : StoredMap) (deltas deltas2 : Queue) (kept kept2 : List KeptBlock) (header header2 : Header) (hash : List ℕ) (totals : Totals) (tail tail2 : List Entry) (memory memory2 : Memory) (next : KeptBlock) (e : Evaluated)
     → IsKeeping chain first base newest deltas kept header hash totals tail memory → newest ≡ rows_after deltas.deltas base → Leads (record { origin = origin_of chain first base; blocks = blocks_of kept }) next.block e → IsBlock next.bytes.items next.block
-    → deltas2 ≡ record deltas { deltas = deltas.deltas ++ e.delta ∷ [] } → kept2 ≡ kept ++ next ∷ [] → header2 ≡ e.delta.header → tail2 ≡ tail ++ map (λ i. entry_of i.txn) next.block.items
+    → deltas2 ≡ and_delta e.delta deltas → kept2 ≡ kept ++ next ∷ [] → header2 ≡ e.delta.header → tail2 ≡ tail ++ map (λ i. entry_of i.txn) next.block.items
     → next.block.header.round ≡ suc (length (blocks_of kept)) → memory2 ≡ and_round e.delta.header.level e.delta.online memory → last_round memory2 ≡ e.delta.round
     → IsKeeping chain first base newest deltas2 kept2 header2 e.delta.hash e.delta.totals tail2 memory2
 kept_more chain first base newest deltas deltas2 kept kept2 header header2 hash totals tail tail2 memory memory2 next e k newest_is l spells d_is kept_is header_is tail_is round grown at =

@@ -4,7 +4,8 @@ use Rattle.std.proofs.lemmas.List.Elements.{All-nil}
 use Rattle.std.specs.FinMap.{empty, insert}
 use Rattle.al_block.specs.Block.{IsBlock}
 use Rattle.al_block.specs.declared.block.Block.{Block}
-use Rattle.al_deltas.specs.Queue.{IsKeptDelta, Queue, StoredMap}
+use Rattle.al_tables.specs.Tables.{StoredMap}
+use Rattle.al_deltas.specs.Queue.{IsKeptDelta, Queue}
 use Rattle.al_tail.specs.declared.tail.Entry.{Entry}
 use Rattle.al_states.specs.declared.keeping.KeptBlock.{KeptBlock}
 use Rattle.al_states.specs.Held.{Held}
@@ -27,7 +28,7 @@ use Rattle.al_states.proofs.MemoryLemmas.{remembers_first}
 use Rattle.al_states.proofs.StoredLemmas.{AreStored}
 
 pub kept_first : (chain : Chain) (first header : Header) (rows : StoredMap) (hash : List ℕ) (totals : Totals) (memory : Memory) → first ≡ header → hash ≡ header_hash_of first → Sound (origin_of chain header rows) → header.counter ≤ 2 ^ 62 → totals ≡ counts_in (origin_of chain header rows) → memory ≡ record { base = 0; snaps = snap_of header.level (bare rows) ∷ [] } → AreStored rows
-    → IsKeeping chain first rows rows (record { base = 0; deltas = []; totals = totals }) [] header hash totals [] memory
+    → IsKeeping chain first rows rows (record { base = 0; deltas = []; totals = totals; spare = 0 }) [] header hash totals [] memory
 kept_first chain first header rows hash totals memory e h sound few counted known stored = record {
   past = [];
   snaps = insert empty 0 (snap_of header.level (bare rows));
@@ -47,7 +48,7 @@ kept_first chain first header rows hash totals memory e h sound few counted know
   since = stored;
 }
 
-pub kept_begun : (chain : Chain) (first header : Header) (base newest rows : StoredMap) (deltas : Queue) (hash : List ℕ) (totals : Totals) (kept : List KeptBlock) (tail : List Entry) (memory : Memory) → base ≡ rows → newest ≡ rows → deltas ≡ record { base = 0; deltas = []; totals = totals } → kept ≡ [] → tail ≡ []
+pub kept_begun : (chain : Chain) (first header : Header) (base newest rows : StoredMap) (deltas : Queue) (hash : List ℕ) (totals : Totals) (kept : List KeptBlock) (tail : List Entry) (memory : Memory) → base ≡ rows → newest ≡ rows → deltas ≡ record { base = 0; deltas = []; totals = totals; spare = 0 } → kept ≡ [] → tail ≡ []
     → first ≡ header → hash ≡ header_hash_of first → Sound (origin_of chain header rows) → header.counter ≤ 2 ^ 62 → totals ≡ counts_in (origin_of chain header rows) → memory ≡ record { base = 0; snaps = snap_of header.level (bare rows) ∷ [] } → AreStored rows → IsKeeping chain first base newest deltas kept header hash totals tail memory
 kept_begun chain first header base newest rows deltas hash totals kept tail memory b n d a t e h sound few counted known stored =
     let x = kept_first chain first header rows hash totals memory e h sound few counted known stored in

@@ -9,7 +9,8 @@ use Rattle.al_base.specs.declared.key.Key.{Key}
 use Rattle.al_base.specs.declared.key.Key.TheVariants.{Account}
 use Rattle.al_block.specs.Block.{IsBlock}
 use Rattle.al_deltas.specs.declared.delta.RoundDelta.{RoundDelta}
-use Rattle.al_deltas.specs.Queue.{IsKeptDelta, StoredMap, after_delta, changed_in, rows_after, stored_at}
+use Rattle.al_tables.specs.Tables.{StoredMap}
+use Rattle.al_deltas.specs.Queue.{IsKeptDelta, after_delta, changed_in, rows_after, stored_at}
 use Rattle.al_deltas.proofs.Searches.{equal}
 use Rattle.al_deltas.proofs.Queues.{change_kept, get-after_delta}
 use Rattle.al_eval.specs.Start.{start_rows, with_account, with_accounts}

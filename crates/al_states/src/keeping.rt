@@ -1,7 +1,7 @@
 //! What is kept of the blocks.
 ghost use Rattle.std.specs.Prelude.{◌≡◌, ◌≤◌, ◌<◌, ◌+◌, ◌^◌, List, [], suc, All, ◌∷◌, ◌++◌, map, sum_by, OnOk, OnErr};
 ghost use Rattle.al_bodies.specs.Ranges.{EffectInRange};
-ghost use Rattle.al_deltas.specs.Queue.{IsKeptDelta, last_of, top};
+ghost use Rattle.al_deltas.specs.Queue.{IsKeptDelta, and_delta, last_of, top};
 ghost use Rattle.al_online.specs.Memory.{IsEachOnce, and_round, top as last_round};
 ghost use Rattle.al_tail.specs.Past.{entry_of};
 ghost use Rattle.al_eval.specs.Groups.{size_of};
@@ -104,7 +104,7 @@ fn keep_delta(
     requires changes { IsKeptDelta delta }
     requires next { delta.round ≡ suc (last_round online.old) }
     requires once { IsEachOnce delta.online }
-    ensures ok { OnOk result ((deltas.new ≡ record deltas.old { deltas = deltas.old.deltas ++ delta ∷ [] }) × (online.new ≡ and_round delta.header.level delta.online online.old) × (last_round online.new ≡ delta.round)) }
+    ensures ok { OnOk result ((deltas.new ≡ and_delta delta deltas.old) × (online.new ≡ and_round delta.header.level delta.online online.old) × (last_round online.new ≡ delta.round)) }
     ensures err { OnErr result ((deltas.new ≡ deltas.old) × (online.new ≡ online.old)) }
 {
     online.push(delta.round, delta.header.level, &delta.online)?;
@@ -133,7 +133,7 @@ pub(crate) fn keep(
     requires follows { evaluated.delta.round ≡ suc (last_round online.old) }
     requires once { IsEachOnce evaluated.delta.online }
     requires entries { evaluated.entries.items ≡ map (λ i. entry_of i.txn) next.block.items }
-    ensures ok { OnOk result ((kept.new.items ≡ kept.old.items ++ next ∷ []) × (tail.new ≡ tail.old ++ map (λ i. entry_of i.txn) next.block.items) × (deltas.new ≡ record deltas.old { deltas = deltas.old.deltas ++ evaluated.delta ∷ [] }) × (online.new ≡ and_round evaluated.delta.header.level evaluated.delta.online online.old) × (last_round online.new ≡ evaluated.delta.round)) }
+    ensures ok { OnOk result ((kept.new.items ≡ kept.old.items ++ next ∷ []) × (tail.new ≡ tail.old ++ map (λ i. entry_of i.txn) next.block.items) × (deltas.new ≡ and_delta evaluated.delta deltas.old) × (online.new ≡ and_round evaluated.delta.header.level evaluated.delta.online online.old) × (last_round online.new ≡ evaluated.delta.round)) }
     ensures err { OnErr result ((kept.new.items ≡ kept.old.items) × (tail.new ≡ tail.old) × (deltas.new ≡ deltas.old) × (online.new ≡ online.old)) }
 {
     keep_block(kept, tail, next, evaluated.entries.as_slice())?;
