@@ -36,6 +36,13 @@ impl<S: Alter + Drop> SqlBlocks<S> {
             Err(Trouble::Failed) => Err(KeepFault::Failed),
         }
     }
+
+    /// How many faults it has counted.
+    pub fn faults(&self) -> u64
+        ensures { result ≡ self.now.faults }
+    {
+        self.faults
+    }
 }
 
 /// The most that a round may be.

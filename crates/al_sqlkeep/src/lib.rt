@@ -7,6 +7,11 @@
 #![tactic(auto)]
 
 mod blocks;
+mod online;
+mod reading;
+mod tables;
 mod trouble;
+mod writing;
 
 pub use blocks::SqlBlocks;
+pub use tables::SqlTables;

@@ -4,6 +4,9 @@ ghost use Rattle.al_base.specs.Causes.{Rose};
 ghost use Rattle.al_keeper.specs.Causes.{WhereFailed};
 
 use al_keeper::KeepFault;
+use al_msgpack::DecodeFault;
+use al_record::ReadError;
+use al_row_records::RowFault;
 use sqlite::{Error, ErrorCode};
 use std::alloc::{AllocError, AllocFailed};
 
@@ -20,6 +23,33 @@ impl From<Error> for Trouble {
     fn from(error: Error) -> Trouble {
         match error {
             Error::SqliteFailure(ErrorCode::OutOfMemory) => Trouble::Memory,
+            _ => Trouble::Failed,
+        }
+    }
+}
+
+impl From<DecodeFault> for Trouble {
+    fn from(fault: DecodeFault) -> Trouble {
+        match fault {
+            DecodeFault::Memory => Trouble::Memory,
+            _ => Trouble::Failed,
+        }
+    }
+}
+
+impl From<ReadError> for Trouble {
+    fn from(error: ReadError) -> Trouble {
+        match error {
+            ReadError::Memory => Trouble::Memory,
+            ReadError::Fault(_) => Trouble::Failed,
+        }
+    }
+}
+
+impl From<RowFault> for Trouble {
+    fn from(fault: RowFault) -> Trouble {
+        match fault {
+            RowFault::Memory => Trouble::Memory,
             _ => Trouble::Failed,
         }
     }
