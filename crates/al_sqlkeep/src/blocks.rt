@@ -53,7 +53,7 @@ fn open<S: Alter>(conn: &mut Connection<S>) -> Result<(u64, u64), Trouble>
     ensures { IfOk result (λ s. s.0 + s.1 ≤ 2 ^ 62 + 1) }
 {
     make(conn)?;
-    let count = one(conn, "SELECT count(*) FROM blocks")?;
+    let count = one(conn, "SELECT count(at) FROM blocks")?;
     if count == 0 {
         return Ok((0, 0));
     }
