@@ -1,0 +1,4 @@
+pub mod Fits
+pub mod CountLemmas
+pub mod Pages
+pub mod PastLemmas
