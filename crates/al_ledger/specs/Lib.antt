@@ -1,0 +1,10 @@
+pub mod Accepting
+pub mod Codes
+pub mod Creators
+pub mod Evaluating
+pub mod Flushing
+pub mod Keeping
+pub mod Looking
+pub mod Repeating
+pub mod Steps
+pub mod Window
